@@ -1,25 +1,20 @@
--- Marks that are set one by one: of removals and of constraints.
-use Rattle.std.proofs.Common.{◌≡◌, ◌≢◌, ℕ, ℤ, zero, suc, ◌+◌, ◌<◌, cond, take, drop, get_or, Option, None, All, Bool, true, false, ◌||◌, Some, List, [], ◌∷◌, ◌++◌, map, length, replicate, Contains, inl, inr, refl, sym, ap, ◌∙◌, subst, arith, nat_eq}
+-- Marks of constraints that are set one by one.
+use Rattle.std.proofs.Common.{◌≡◌, ◌≢◌, ℕ, zero, suc, ◌<◌, Option, None, All, Bool, true, false, ◌||◌, Some, List, [], ◌∷◌, ◌++◌, map, length, replicate, inl, inr, refl, sym, ap, ◌∙◌, arith, nat_eq}
 use Rattle.std.specs.Prelude.{IfSome, slice_get, slice_set}
-use Rattle.std.proofs.lemmas.List.{map-append, take_more}
 use Rattle.std.proofs.lemmas.List.Elements.{All-contains}
 use Rattle.std.proofs.Math.Bool.{or-true}
-use Rattle.std.proofs.lemmas.Bool.{cases_lt, eq-eqb, ne_eqb, or_from, or_left, false_from_ne_true}
+use Rattle.std.proofs.lemmas.Bool.{cases_lt, eq-eqb, ne_eqb, or_from, or_left}
 use Rattle.std.proofs.lemmas.List.Folds.{list_any-append}
 use Rattle.std.proofs.lemmas.Option.{none-some, same_Some, slice_get_within, get_or_from_slice_get}
-use Rattle.palm_base.specs.declared.terms.Pair.{Pair}
 use Rattle.palm_base.specs.declared.terms.Cid.{Cid}
 use Rattle.palm_base.specs.declared.terms.Cid.TheVariants.{User}
-use Rattle.palm_base.proofs.cited.Members.{map_agree, member_single, member_get, member_here}
+use Rattle.palm_base.proofs.cited.Members.{map_agree, member_get}
 use Rattle.palm_book.specs.Book.{Contents, IsBook}
 use Rattle.palm_book.specs.declared.book.BookCon.{BookCon}
 use Rattle.palm_base.specs.Order.{same_cid}
-use Rattle.palm_model.specs.Log.{Removal, log_pairs}
-use Rattle.palm_explain.specs.Explanations.{IsLinked}
-use Rattle.palm_cert.specs.Certificate.{asked, is_asked, is_cited, pairs_with}
-use Rattle.palm_cert.specs.Needs.{cites_of, marks_of}
-use Rattle.palm_cert.proofs.cited.Links.{asked_member, linked_apart, member_asked, pair_logged, same_place}
-use Rattle.palm_cert.proofs.cited.Numbers.{pair_at}
+use Rattle.palm_model.specs.Log.{Removal}
+use Rattle.palm_cert.specs.Certificate.{is_cited}
+use Rattle.palm_cert.specs.Needs.{cites_of}
 
 -- ---- one mark more
 
@@ -48,58 +43,6 @@ module _ {X : Type 0} (f h : X → Bool) where
       or_last : (b c : Bool) → c ≡ false → b ≡ (b || c)
       or_last true c e = refl
       or_last false c e = sym e
-
--- ---- of removals
-
-pub unmarked_pairs : (log : List Removal) → replicate (length log) false ≡ marks_of log []
-unmarked_pairs [] = refl
-unmarked_pairs (r ∷ log) = ap (λ ms. false ∷ ms) (unmarked_pairs log)
-
-marks_more : (log : List Removal) (pairs : List Pair) (p : Pair) → map (λ (r : Removal). is_asked pairs r.pair || is_asked (p ∷ []) r.pair) log ≡ marks_of log (pairs ++ p ∷ [])
-marks_more log pairs p = map_agree _ _ log (λ r m. sym (list_any-append _ pairs (p ∷ [])))
-
--- a pair without a removal marks none
-pub marks_none : (log : List Removal) (pairs : List Pair) (p : Pair) → (Contains (log_pairs log) p → ⊥) → marks_of log pairs ≡ marks_of log (pairs ++ p ∷ [])
-marks_none log pairs p none =
-    or_none (λ (r : Removal). is_asked pairs r.pair) (λ (r : Removal). is_asked (p ∷ []) r.pair) log
-    (λ j r at. false_from_ne_true (is_asked (p ∷ []) r.pair) (λ t. none (subst (λ (q : Pair). Contains (log_pairs log) q) (sym (member_single p r.pair (asked_member (p ∷ []) r.pair t))) (pair_logged log r (member_get log j r at)))))
-    ∙ marks_more log pairs p
-
--- a pair marks the removal at its place
-pub marks_one : (log : List Removal) (pairs : List Pair) (p : Pair) (place : ℕ) (r : Removal) → IsLinked log → slice_get log place ≡ Some r → r.pair ≡ p → slice_set (marks_of log pairs) place true ≡ marks_of log (pairs ++ p ∷ [])
-marks_one log pairs p place r linked at is =
-    or_one (λ (s : Removal). is_asked pairs s.pair) (λ (s : Removal). is_asked (p ∷ []) s.pair) log place r at
-    (subst (λ (q : Pair). is_asked (p ∷ []) q ≡ true) (sym is) (member_asked (p ∷ []) p (member_here p [])))
-    (λ j s there other. false_from_ne_true (is_asked (p ∷ []) s.pair) (λ t.
-    other (same_place (log_pairs log) (linked_apart log linked) j place p
-    (pair_at log j s there ∙ ap Some (sym (member_single p s.pair (asked_member (p ∷ []) s.pair t)))) (pair_at log place r at ∙ ap Some is))))
-    ∙ marks_more log pairs p
-
-removal_at : (log : List Removal) (place : ℕ) (p : Pair) → slice_get (log_pairs log) place ≡ Some p → (r : Removal) × (slice_get log place ≡ Some r) × (r.pair ≡ p)
-removal_at [] place p at = absurd (none-some p at)
-removal_at (r ∷ log) zero p at = (r, refl, same_Some r.pair p at)
-removal_at (r ∷ log) (suc place) p at = removal_at log place p at
-
-pub marks_found : (log : List Removal) (pairs : List Pair) (p : Pair) (place : ℕ) → IsLinked log → slice_get (log_pairs log) place ≡ Some p → slice_set (marks_of log pairs) place true ≡ marks_of log (pairs ++ p ∷ [])
-marks_found log pairs p place linked at = let r = removal_at log place p at in marks_one log pairs p place r.0 linked r.1 r.2
-
--- the values of a variable, with one more
-pub values_more : (x : ℕ) (values : List ℤ) (i : ℕ) (v d : ℤ) → i < length values → v ≡ get_or values i d → pairs_with x (take i values) ++ record { var = x; value = v } ∷ [] ≡ pairs_with x (take (i + 1) values)
-values_more x values i v d lt is =
-    let pair = λ (w : ℤ). let p : Pair = record { var = x; value = w } in p in
-    sym (map-append pair (take i values) (v ∷ [])) ∙ ap (λ (ws : List ℤ). pairs_with x ws) (ap (λ (w : ℤ). take i values ++ w ∷ []) is ∙ sym (take_more values i d lt))
-
-drop_at : (log : List Removal) (place : ℕ) (r : Removal) → slice_get log place ≡ Some r → drop place log ≡ r ∷ drop (suc place) log
-drop_at [] place r at = absurd (none-some r at)
-drop_at (s ∷ log) zero r at = ap (λ (z : Removal). z ∷ log) (same_Some s r at)
-drop_at (s ∷ log) (suc place) r at = drop_at log place r at
-
--- what one removal more asks for
-pub asked_more : (log : List Removal) (pairs : List Pair) (place : ℕ) (r : Removal) → slice_get log place ≡ Some r
-    → cond (is_asked (asked (drop (suc place) log) pairs) r.pair) (asked (drop (suc place) log) pairs ++ r.reasons) (asked (drop (suc place) log) pairs) ≡ asked (drop place log) pairs
-asked_more log pairs place r at = ap (λ (rs : List Removal). asked rs pairs) (sym (drop_at log place r at))
-
--- ---- of constraints
 
 pub uncited : (cs : List BookCon) → replicate (length cs) false ≡ map (is_cited []) cs
 uncited [] = refl

@@ -1,44 +1,9 @@
--- Numbers that are given one by one, variables one by one.
-use Rattle.std.proofs.Common.{◌≡◌, ℕ, suc, ◌+◌, ◌<◌, ◌≤◌, Bool, true, false, cond, List, [], ◌∷◌, ◌++◌, length, take, drop, get_or, filter, flat_map, refl, sym, ap, ◌∙◌, arith, zero-add}
+-- Variables one by one.
+use Rattle.std.proofs.Common.{◌≡◌, ℕ, ◌+◌, ◌<◌, ◌≤◌, Bool, true, false, cond, List, [], ◌∷◌, ◌++◌, length, take, drop, get_or, filter, flat_map, refl, sym, ap, ◌∙◌, arith, zero-add}
 use Rattle.std.specs.List.{range_with_len}
 use Rattle.std.proofs.lemmas.Grind.{flat_map-append}
 use Rattle.std.proofs.lemmas.List.{take-append-drop, take_all, take_more}
 use Rattle.std.proofs.lemmas.List.FromFn.{get_or-range_with_len, length-range_with_len}
-use Rattle.palm_cert.specs.Needs.{numbered}
-
--- ---- the next number
-
-abbrev pub next_of : ℕ → List Bool → ℕ
-next_of n [] = n
-next_of n (mark ∷ marks) = next_of (cond mark (n + 1) n) marks
-
-pub numbered_more : (n : ℕ) (marks : List Bool) (b : Bool) → numbered n (marks ++ b ∷ []) ≡ numbered n marks ++ next_of n marks ∷ []
-numbered_more n [] b = refl
-numbered_more n (m ∷ marks) b = ap (λ ks. n ∷ ks) (numbered_more (cond m (n + 1) n) marks b)
-
-pub next_more : (n : ℕ) (marks : List Bool) (b : Bool) → next_of n (marks ++ b ∷ []) ≡ cond b (next_of n marks + 1) (next_of n marks)
-next_more n [] b = refl
-next_more n (m ∷ marks) b = next_more (cond m (n + 1) n) marks b
-
-pub next_within : (b : Bool) (m n i : ℕ) → m ≡ cond b (n + 1) n → n ≤ i + 1 → m ≤ (i + 1) + 1
-next_within true m n i e le = omega (arith, e, le)
-next_within false m n i e le = omega (arith, e, le)
-
--- the next number behind one more mark
-pub next_taken : (marks : List Bool) (i next m : ℕ) (d : Bool) → i < length marks → next ≡ next_of 1 (take i marks) → m ≡ cond (get_or marks i d) (next + 1) next → m ≡ next_of 1 (take (i + 1) marks)
-next_taken marks i next m d lt is e =
-    e ∙ ap (λ (n : ℕ). cond (get_or marks i d) (n + 1) n) is ∙ sym (next_more 1 (take i marks) (get_or marks i d)) ∙ ap (λ (ms : List Bool). next_of 1 ms) (sym (take_more marks i d lt))
-
-pub numbered_taken : (marks : List Bool) (i next : ℕ) (d : Bool) (old new : List ℕ) → i < length marks → next ≡ next_of 1 (take i marks) → old ≡ numbered 1 (take i marks) → new ≡ old ++ next ∷ [] → new ≡ numbered 1 (take (i + 1) marks)
-numbered_taken marks i next d old new lt is before e =
-    e ∙ ap (λ (ns : List ℕ). ns ++ next ∷ []) before ∙ ap (λ (n : ℕ). numbered 1 (take i marks) ++ n ∷ []) is
-    ∙ sym (numbered_more 1 (take i marks) (get_or marks i d)) ∙ ap (λ (ms : List Bool). numbered 1 ms) (sym (take_more marks i d lt))
-
-pub length_numbered : (n : ℕ) (marks : List Bool) → length (numbered n marks) ≡ length marks
-length_numbered n [] = refl
-length_numbered n (b ∷ marks) = ap suc (length_numbered (cond b (n + 1) n) marks)
-
--- ---- numbers from 0 on
 
 filter_both : (p : ℕ → Bool) (xs ys : List ℕ) → filter p (xs ++ ys) ≡ filter p xs ++ filter p ys
 filter_both p [] ys = refl

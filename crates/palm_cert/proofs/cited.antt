@@ -13,3 +13,4 @@ pub mod Numbers
 pub mod Reached
 pub mod Readable
 pub mod Saying
+pub mod Stepped

@@ -14,6 +14,7 @@ use Rattle.palm_lang.specs.Reply.{ended, fixed_text, var_line}
 use Rattle.palm_lang.specs.declared.reply.Fixed.TheVariants.{End}
 use Rattle.palm_claim.specs.declared.verdict.Claim.{Claim}
 use Rattle.palm_claim.specs.declared.verdict.Claim.TheVariants.{Gone, Conflict}
+use Rattle.palm_explain.specs.Needed.{pairs_with}
 use Rattle.palm_model.specs.Domains.{is_among}
 use Rattle.palm_base.specs.Order.{same_cid}
 use Rattle.palm_model.specs.Log.{Removal}
@@ -30,10 +31,6 @@ claim_var (Conflict x) = x
 abbrev pub claim_values : Contents → Claim → List ℤ
 claim_values book (Gone pair) = pair.value ∷ []
 claim_values book (Conflict x) = values_at book.variables x
-
--- the pairs of a variable with these values
-abbrev pub pairs_with : ℕ → List ℤ → List Pair
-pairs_with x values = map (λ v. record { var = x; value = v }) values
 
 -- the claimed pairs
 abbrev pub claimed : Contents → Claim → List Pair

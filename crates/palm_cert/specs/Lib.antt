@@ -1,7 +1,6 @@
 pub mod Accepted
 pub mod Certificate
 pub mod Moved
-pub mod Needed
 pub mod Needs
 pub mod Readable
 pub mod SameClaim

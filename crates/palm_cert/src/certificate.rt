@@ -1,16 +1,16 @@
 //! Writing a certificate, a line at a time, so that no whole text is held.
-ghost use Rattle.std.specs.Prelude.{◌≡◌, ◌<◌, length, flat_map, All, OnOk};
+ghost use Rattle.std.specs.Prelude.{◌≡◌, ◌<◌, [], ◌∷◌, length, flat_map, All, Contains, OnOk};
 ghost use Rattle.palm_book.specs.Book.{HasNumber, active_of, initial_of, number_name};
 ghost use Rattle.palm_cert.specs.Accepted.{IsAccepted};
 ghost use Rattle.palm_cert.specs.Certificate.{added_line, certificate_text, claim_line, claim_var, declarations, declared_line, header_line, step_line, step_words, used};
-ghost use Rattle.palm_cert.specs.Needs.{AreSteps, CanClaim, IsOfBook, declared_at, marked, marked_at};
+ghost use Rattle.palm_cert.specs.Needs.{AreSteps, CanClaim, IsOfBook, declared_at, marked, marked_at, removals_at};
 ghost use Rattle.palm_lang.specs.Reply.{ended};
 ghost use Rattle.palm_lang.specs.Writing.{Writes};
 ghost use Rattle.palm_model.specs.Constraint.{scope};
 ghost use Rattle.palm_read.specs.Words.{spaced};
 
 use crate::lines::{put_added, put_claim, put_header, put_step};
-use crate::needs::{StepMarks, claimed_var, collect_numbers, needs_of, number_of};
+use crate::needs::{claimed_var, collect_numbers, needs_of, number_of};
 use crate::usage::is_used;
 use palm_base::{NoMemory, Pair, Sink, Var};
 use palm_engine::Engine;
@@ -46,7 +46,7 @@ pub fn write_cert<F: Filter, K: Sink>(
     let mut buffer = Vec::new(alloc);
     write_declarations(book, &needs.cited, claimed_var(&claim), out, &mut buffer)?;
     let mut numbers = Vec::new(alloc);
-    write_steps(book, log, &needs.marks, &mut numbers, out, &mut buffer)?;
+    write_steps(book, log, &needs.steps, &mut numbers, out, &mut buffer)?;
     write_claim(book, &claim, out, &mut buffer)?;
     write_fixed(Fixed::End, out, &mut buffer)
 }
@@ -163,41 +163,37 @@ pub fn write_added<K: Sink>(
 fn write_steps<K: Sink>(
     book: &Book,
     log: &ExplainStore,
-    marks: &StepMarks,
+    steps: &[usize],
     numbers: &mut Vec<usize>,
     out: &mut K,
     buffer: &mut Vec<u8>,
 ) -> Result<(), CertStop>
-    requires steps { AreSteps log.now.log marks.now }
+    requires steps { AreSteps log.now.log steps.now }
     requires logged { All (IsOfBook book.now) log.now.log }
-    ensures { Writes (K.state out.old) (K.state out.new) (flat_map (step_line book.now (marked marks.now.steps.items log.now.log)) (marked marks.now.steps.items log.now.log)) result }
+    ensures { Writes (K.state out.old) (K.state out.new) (flat_map (step_line book.now (removals_at log.now.log steps.now)) (removals_at log.now.log steps.now)) result }
 {
-    for place in 0..log.removals() {
-        write_step(book, log, marks, place, numbers, out, buffer)?;
+    for place in steps {
+        write_step(book, log, steps, *place, numbers, out, buffer)?;
     }
     Ok(())
 }
 
-/// Writes the removal at a place, where it is a step.
+/// Writes the removal at a place as a step.
 fn write_step<K: Sink>(
     book: &Book,
     log: &ExplainStore,
-    marks: &StepMarks,
+    steps: &[usize],
     place: usize,
     numbers: &mut Vec<usize>,
     out: &mut K,
     buffer: &mut Vec<u8>,
 ) -> Result<(), CertStop>
-    requires steps { AreSteps log.now.log marks.now }
+    requires steps { AreSteps log.now.log steps.now }
     requires logged { All (IsOfBook book.now) log.now.log }
-    requires place { place < length log.now.log }
-    ensures { Writes (K.state out.old) (K.state out.new) (flat_map (step_line book.now (marked marks.now.steps.items log.now.log)) (marked_at marks.now.steps.items log.now.log place)) result }
+    requires step { Contains steps.now place }
+    ensures { Writes (K.state out.old) (K.state out.new) (flat_map (step_line book.now (removals_at log.now.log steps.now)) (removals_at log.now.log (place ∷ []))) result }
 {
-    let is_step = marks.steps[place];
-    if !is_step {
-        return Ok(());
-    }
-    collect_numbers(log, marks, place, numbers)?;
+    collect_numbers(log, steps, place, numbers)?;
     let by = number_of(log.by_at(place));
     write_removal(book, &log.pair_at(place), by, numbers, out, buffer)
 }

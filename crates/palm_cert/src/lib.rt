@@ -16,5 +16,5 @@ pub use laws::{
     steps_are_what_the_claim_needs,
 };
 pub use lines::put_step;
-pub use needs::{StepMarks, collect_numbers, mark_steps, number_of};
+pub use needs::{collect_numbers, number_of};
 pub use palm_lang::WriteStop as CertStop;

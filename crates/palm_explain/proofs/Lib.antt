@@ -15,8 +15,9 @@ mod Linked
 mod Loosening
 mod Marks
 mod Naming
-mod Noted
+mod NeededPlaces
 mod Once
+mod PlaceSets
 mod PuttingBack
 mod Reading
 mod Rising

@@ -13,9 +13,9 @@ use Rattle.palm_explain.specs.declared.restored.Restored.{Restored}
 use Rattle.palm_explain.specs.declared.node.Node.{Node}
 use Rattle.palm_explain.specs.declared.rows.Row.{Row}
 use Rattle.palm_explain.specs.Explanations.{Explanations, NamesOfSome, log_bys, reasons_of}
-use Rattle.palm_explain.specs.Graph.{AreFound, Graph, IsGraph, IsKey, IsPlaced, graph_of, link_of, log_of, pair_at, removal_at, said}
+use Rattle.palm_explain.specs.Graph.{AreFound, Graph, IsGraph, IsKey, IsPlaced, Link, graph_of, link_of, log_of, pair_at, removal_at, said}
 use Rattle.palm_explain.specs.Rows.{key_at}
-use Rattle.palm_explain.proofs.Graphs.{antecedent_key, map_place, pair_is, pair_key, removal_is, some_same}
+use Rattle.palm_explain.proofs.Graphs.{antecedent_key, map_place, pair_is, pair_key, removal_is}
 use Rattle.palm_explain.proofs.Naming.{listed_like}
 use Rattle.palm_explain.proofs.Writes.{key_there}
 
@@ -64,33 +64,21 @@ pair_found g keys rows p placed found m =
     let k = pair_key g keys p placed m in
     (k.0, ap (key_at rows) (sym k.2 ∙ pair_is g k.0 k.1.0 k.1.1) ∙ found k.0 k.1.0 k.1.1, k.1, k.2)
 
--- a key that is found, of a node with this pair, tells the place
-pub place_known : (s : Slab Node) (keys : List ℕ) (k : ℕ) (n : Node) (p : Pair) → IsPlaced (graph_of s) keys → get s k ≡ Some n → n.pair ≡ p → slice_get (log_pairs (log_of (graph_of s) keys)) n.place ≡ Some p
-place_known s keys k n p placed at same =
-    let g = graph_of s in
-    let here = placed.logged k (said n) (ap link_of at) in
-    let r = map_place (removal_at g) keys n.place k here in
-    map_place (λ (z : Removal). z.pair) (log_of g keys) n.place (removal_at g k) r ∙ ap (λ (z : Removal). Some z.pair) (removal_is g k (said n) (ap link_of at)) ∙ ap Some same
+-- the node of the pair tells the place
+pub place_known : (g : Graph) (keys : List ℕ) (k : ℕ) (l : Link) (p : Pair) → IsPlaced g keys → g k ≡ Some l → l.pair ≡ p → slice_get (log_pairs (log_of g keys)) l.place ≡ Some p
+place_known g keys k l p placed at same =
+    map_place (λ (z : Removal). z.pair) (log_of g keys) l.place (removal_at g k) (map_place (removal_at g) keys l.place k (placed.logged k l at)) ∙ ap (λ (z : Removal). Some z.pair) (removal_is g k l at) ∙ ap Some same
+
+-- a pair without a node is not removed
+pub no_node : (g : Graph) (keys : List ℕ) (p : Pair) → IsPlaced g keys → ((k : ℕ) → IsKey g k → pair_at g k ≡ p → ⊥) → Contains (log_pairs (log_of g keys)) p → ⊥
+no_node g keys p placed none m = let k = pair_key g keys p placed m in none k.0 k.1 k.2
+
+pub match_like : {X : Type 0} (o : Option X) (A C : Type 0) (B D : X → Type 0) → (A → C) → ((x : X) → B x → D x) → MatchOption o A B → MatchOption o C D
+match_like None A C B D none some m = none m
+match_like (Some x) A C B D none some m = some x m
 
 none_some : {X : Type 0} {x : X} → None ≡ Some x → ⊥
 none_some e = cc
-
--- no key is found, or no node, or one with another pair: the pair is not removed
-pub no_key : (g : Graph) (keys : List ℕ) (rows : List Row) (p : Pair) → IsPlaced g keys → AreFound rows g → key_at rows p ≡ None → Contains (log_pairs (log_of g keys)) p → ⊥
-no_key g keys rows p placed found none m = let k = pair_found g keys rows p placed found m in none_some (sym none ∙ k.1)
-
-pub no_node : (s : Slab Node) (keys : List ℕ) (rows : List Row) (p : Pair) (k : ℕ) → IsPlaced (graph_of s) keys → AreFound rows (graph_of s) → key_at rows p ≡ Some k → get s k ≡ None → Contains (log_pairs (log_of (graph_of s) keys)) p → ⊥
-no_node s keys rows p k placed found is none m =
-    let j = pair_found (graph_of s) keys rows p placed found m in
-    let same : j.0 ≡ k = some_same j.0 k (sym j.1 ∙ is) in
-    none_some (sym (ap link_of none) ∙ ap (graph_of s) (sym same) ∙ j.2.1)
-
-pub other_node : (s : Slab Node) (keys : List ℕ) (rows : List Row) (p : Pair) (k : ℕ) (n : Node) → IsPlaced (graph_of s) keys → AreFound rows (graph_of s) → key_at rows p ≡ Some k → get s k ≡ Some n → (n.pair ≡ p → ⊥)
-    → Contains (log_pairs (log_of (graph_of s) keys)) p → ⊥
-other_node s keys rows p k n placed found is at differs m =
-    let j = pair_found (graph_of s) keys rows p placed found m in
-    let same : j.0 ≡ k = some_same j.0 k (sym j.1 ∙ is) in
-    differs (sym (pair_is (graph_of s) k (said n) (ap link_of at)) ∙ ap (pair_at (graph_of s)) (sym same) ∙ j.3)
 
 pub match_none : {X : Type 0} (o : Option X) (A : Type 0) (B : X → Type 0) → o ≡ None → A → MatchOption o A B
 match_none None A B e a = a

@@ -1,5 +1,5 @@
 -- The graph of the removals: what each node says, the log as the keys of its nodes, and how the two go together.
-use Rattle.std.specs.Prelude.{◌≡◌, ◌≢◌, ℕ, ℤ, pos, ◌+◌, ◌-◌, ◌<◌, ◌≤◌, ◌⊎◌, Bool, true, false, not, List, [], ◌∷◌, ◌++◌, map, filter, take, length, Option, Some, None, Contains, slice_get, slice_index_or}
+use Rattle.std.specs.Prelude.{◌≡◌, ◌≢◌, ℕ, ℤ, pos, ◌+◌, ◌-◌, ◌<◌, ◌≤◌, ◌⊎◌, Bool, true, false, not, List, [], ◌∷◌, ◌++◌, map, filter, take, length, Option, Some, None, Contains, slice_get}
 use Rattle.slab.specs.Slab.{Slab, get, slab_len}
 use Rattle.palm_base.specs.declared.terms.Pair.{Pair}
 use Rattle.palm_base.specs.declared.terms.Cid.{Cid}
@@ -229,10 +229,6 @@ pub record IsUnderWay (g : Graph) (keys : List ℕ) (due : ℕ → Bool) (c : Ci
 -- the removals that are still to be visited stand before the place
 abbrev pub AreBefore : Graph → (ℕ → Bool) → ℕ → Type 0
 AreBefore g due place = (k : ℕ) → due k ≡ true → (l : Link) × (g k ≡ Some l) × (l.place < place)
-
--- whether the place is noted
-abbrev pub is_due : List Bool → ℕ → Bool
-is_due due place = slice_index_or due place false
 
 -- the keys of the first so many reasons' removals, and room for those of the others
 pub record HasFirst (g : Graph) (reasons : List Pair) (count : ℕ) (keys : List ℕ) (room : ℕ) : Type 0 where

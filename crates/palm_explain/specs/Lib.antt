@@ -4,7 +4,8 @@ pub mod Explanations
 pub mod Graph
 pub mod Lost
 pub mod Merging
-pub mod Noted
+pub mod Needed
+pub mod Places
 pub mod Restored
 pub mod Rows
 pub mod Threads

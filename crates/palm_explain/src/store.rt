@@ -6,18 +6,20 @@ ghost use Rattle.palm_domain.specs.Rows.{initial_of};
 ghost use Rattle.palm_model.specs.Constraint.{Distinct};
 ghost use Rattle.palm_model.specs.Event.{lost_pairs, vars_of};
 ghost use Rattle.palm_model.specs.Log.{IsListOf, Loses, NamesOfPair, log_pairs};
+ghost use Rattle.palm_explain.specs.Needed.{AreNeeded, pairs_with};
 ghost use Rattle.palm_explain.specs.Explanations.{AreEnds, IsLinked, IsSpanned, LacksExactly, NamesOfSome, log_bys, reasons_of, restored_vars};
 
 use crate::emptied::Emptied;
 use crate::entering::{antecedents_of, link, make_room, unlink};
 use crate::forgetting::{forget_lost, forget_threads};
 use crate::marking::mark_lost;
+use crate::needing::{add_needed, cids_of, place_near};
 use crate::node::{Node, Nodes, guessed};
 use crate::restored::Restored;
 use crate::rows::{Row, key_of, put_key};
 use crate::spare::Spare;
 use crate::threads::Threads;
-use crate::walking::{cids_of, rests_on};
+use crate::walking::rests_on;
 use crate::withdrawing::{close_up, put_back, remove_lost};
 use palm_base::{Cid, CidList, NoMemory, Pair, Value, Var};
 use palm_domain::DomainStore;
@@ -178,12 +180,7 @@ impl ExplainStore {
             (Contains (log_pairs self.now.log) pair → ⊥)
             (λ place. slice_get (log_pairs self.now.log) place ≡ Some pair) }
     {
-        let node = self.nodes.get(key_of(&self.rows, &pair)? as usize)?;
-        if node.pair == pair {
-            Some(node.place)
-        } else {
-            None
-        }
+        place_near(&self.nodes, &self.rows, &pair, &mut 0)
     }
 
     /// Whether the explanation of a removed pair holds the constraint. The removals stay. It takes no memory.
@@ -222,6 +219,26 @@ impl ExplainStore {
         let cids = cids_of(alloc, &self.nodes, &self.log, &self.rows, var, values)?;
         *out = CidList::from_vec(cids);
         Ok(())
+    }
+
+    /// Makes `places` the places of the removals on which those of these values rest, where they are removed: themselves, and with
+    /// each the reasons for which it was made. They rise; without memory `places` is empty.
+    pub fn needed(
+        &self,
+        var: Var,
+        values: &[Value],
+        places: &mut Vec<usize>,
+    ) -> Result<(), NoMemory>
+        ensures ok { OnOk result (AreNeeded self.now.log (pairs_with var values.now) places.new.items) }
+        ensures err { OnErr result (places.new.items ≡ []) }
+    {
+        places.clear();
+        let added = add_needed(&self.nodes, &self.log, &self.rows, var, values, places);
+        if added.is_err() {
+            places.clear();
+        }
+        places.reverse();
+        added
     }
 
     /// Takes the removals out whose explanations hold the constraint, and puts their pairs back; the others keep

@@ -14,7 +14,8 @@ use Rattle.palm_model.specs.Conflict.{InConflict}
 use Rattle.palm_model.specs.Domains.{Domains, Has, values_of}
 use Rattle.palm_model.specs.Log.{IsRight, IsWellFounded, Removal, log_pairs}
 use Rattle.palm_model.specs.State.{EngineState, IsEmptyAt, IsValid, present}
-use Rattle.palm_cert.specs.Certificate.{pairs_with, steps_of}
+use Rattle.palm_cert.specs.Certificate.{steps_of}
+use Rattle.palm_explain.specs.Needed.{pairs_with}
 use Rattle.palm_cert.proofs.cited.Before.{range_has}
 use Rattle.palm_cert.proofs.cited.Earlier.{right_between}
 use Rattle.palm_cert.proofs.cited.Lengths.{apart_short, over_few, over_member, pairs_over, within_book}

@@ -11,7 +11,8 @@ use Rattle.palm_model.specs.State.{EngineState}
 use Rattle.palm_read.specs.Lines.{ended}
 use Rattle.palm_read.specs.Words.{spaced}
 use Rattle.palm_book.specs.Book.{BookVar, Contents, name_of, user_name}
-use Rattle.palm_cert.specs.Certificate.{from_words, numbers_of, pairs_with, steps_of}
+use Rattle.palm_cert.specs.Certificate.{from_words, numbers_of, steps_of}
+use Rattle.palm_explain.specs.Needed.{pairs_with}
 use Rattle.palm_search.specs.Turns.{SearchState, HasFlatConflict}
 
 -- ---- which lemma gave a negation

@@ -4,10 +4,11 @@ use Rattle.palm_base.specs.declared.terms.Pair.{Pair}
 use Rattle.palm_base.specs.declared.terms.Cid.{Cid}
 use Rattle.palm_base.specs.declared.terms.Cid.TheVariants.{Decide, Not, User}
 use Rattle.palm_book.specs.Book.{Contents}
-use Rattle.palm_cert.specs.Certificate.{pairs_with, steps_of}
-use Rattle.palm_cert.specs.Needs.{AreMarks, marked}
-use Rattle.palm_cert.specs.declared.needs.StepMarks.{StepMarks}
-use Rattle.palm_cert.proofs.cited.Made.{steps_found}
+use Rattle.palm_cert.specs.Certificate.{steps_of}
+use Rattle.palm_cert.specs.Needs.{removals_at}
+use Rattle.palm_cert.proofs.cited.Stepped.{steps_found}
+use Rattle.palm_explain.specs.Explanations.{IsLinked}
+use Rattle.palm_explain.specs.Needed.{AreNeeded, pairs_with}
 use Rattle.palm_model.specs.Domains.{values_of}
 use Rattle.palm_model.specs.Log.{Removal, is_named}
 use Rattle.palm_model.specs.State.{EngineState}
@@ -16,20 +17,20 @@ use Rattle.proof_run.specs.Lemma.{held_decisions, lemma_line, step_line, text_of
 
 -- ---- its steps
 
--- the marked removals are those that the emptied variable needs
-wiped_found : (s : EngineState) (log : List Removal) (marks : StepMarks) (values : List ℤ) (x y : ℕ) → log ≡ s.log → values ≡ values_of s.initial y → AreMarks log (pairs_with y values) marks → y ≡ x → marked marks.steps.items log ≡ wiped_by s x
-wiped_found s log marks values x y logged valued are same =
-    steps_found log (pairs_with y values) marks are
+-- the removals at the places are those that the emptied variable needs
+wiped_found : (s : EngineState) (log : List Removal) (places : List ℕ) (values : List ℤ) (x y : ℕ) → log ≡ s.log → values ≡ values_of s.initial y → IsLinked log → AreNeeded log (pairs_with y values) places → y ≡ x → removals_at log places ≡ wiped_by s x
+wiped_found s log places values x y logged valued linked are same =
+    steps_found log (pairs_with y values) places linked are
     ∙ ap (λ (l : List Removal). steps_of l (pairs_with y values)) logged
     ∙ ap (λ (vs : List ℤ). steps_of s.log (pairs_with y vs)) valued
     ∙ ap (λ (z : ℕ). wiped_by s z) same
 
-pub lemma_made : (book : Contents) (undone pairs ps : List Pair) (s : EngineState) (log : List Removal) (marks : StepMarks) (values : List ℤ) (x y : ℕ) → ps ≡ pairs → log ≡ s.log → values ≡ values_of s.initial y
-    → AreMarks log (pairs_with y values) marks → y ≡ x
-    → lemma_line book.variables ps ++ flat_map (step_line book undone (marked marks.steps.items log)) (marked marks.steps.items log) ++ wipe_line book.variables y ≡ text_of_lemma book undone pairs (wiped_by s x) x
-lemma_made book undone pairs ps s log marks values x y held logged valued are same =
-    ap (λ (qs : List Pair). text_of_lemma book undone qs (marked marks.steps.items log) y) held
-    ∙ ap (λ (steps : List Removal). text_of_lemma book undone pairs steps y) (wiped_found s log marks values x y logged valued are same)
+pub lemma_made : (book : Contents) (undone pairs ps : List Pair) (s : EngineState) (log : List Removal) (places : List ℕ) (values : List ℤ) (x y : ℕ) → ps ≡ pairs → log ≡ s.log → values ≡ values_of s.initial y
+    → IsLinked log → AreNeeded log (pairs_with y values) places → y ≡ x
+    → lemma_line book.variables ps ++ flat_map (step_line book undone (removals_at log places)) (removals_at log places) ++ wipe_line book.variables y ≡ text_of_lemma book undone pairs (wiped_by s x) x
+lemma_made book undone pairs ps s log places values x y held logged valued linked are same =
+    ap (λ (qs : List Pair). text_of_lemma book undone qs (removals_at log places) y) held
+    ∙ ap (λ (steps : List Removal). text_of_lemma book undone pairs steps y) (wiped_found s log places values x y logged valued linked are same)
     ∙ ap (λ (z : ℕ). text_of_lemma book undone pairs (wiped_by s x) z) same
 
 -- ---- without decisions

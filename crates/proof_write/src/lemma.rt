@@ -1,12 +1,11 @@
 //! Writing a lemma: the decisions that it rests on, the steps that the emptied variable needs, and that variable.
-ghost use Rattle.std.specs.Prelude.{◌≡◌, ◌<◌, ℕ, List, All, Some, length, flat_map, slice_get, true};
+ghost use Rattle.std.specs.Prelude.{◌≡◌, ◌<◌, ℕ, List, [], ◌∷◌, All, Contains, length, flat_map};
 ghost use Rattle.palm_base.specs.declared.terms.Pair.{Pair as PairTerm};
 ghost use Rattle.palm_book.specs.Book.{HasNumber, number_name};
 ghost use Rattle.palm_cert.specs.Certificate.{step_words};
-ghost use Rattle.palm_cert.specs.Needs.{AreSteps, marked, marked_at};
+ghost use Rattle.palm_cert.specs.Needs.{AreSteps, removals_at};
 ghost use Rattle.palm_lang.specs.Reply.{ended};
 ghost use Rattle.palm_lang.specs.Writing.{Writes};
-ghost use Rattle.palm_model.specs.Log.{Removal};
 ghost use Rattle.palm_model.specs.State.{HasEmpty, IsEmptyAt, present};
 ghost use Rattle.palm_read.specs.Words.{spaced};
 ghost use Rattle.palm_search.specs.Calls.{search_state};
@@ -18,7 +17,7 @@ ghost use Rattle.proof_write.specs.Numbers.{AreNumbers};
 use crate::lines::{put_assumed, put_given, put_lemma, put_wipe};
 use crate::notes::Notes;
 use palm_base::{Cid, Pair, Sink, Var};
-use palm_cert::{collect_numbers, mark_steps, put_step};
+use palm_cert::{collect_numbers, put_step};
 use palm_engine::Engine;
 use palm_explain::ExplainStore;
 use palm_filter::Filter;
@@ -49,7 +48,7 @@ pub(crate) fn write_lemma<F: Filter, K: Sink>(
         unreachable!();
     };
     write_front(book, search.decisions(), held, out, &mut notes.buffer)?;
-    mark_steps(log, var, book.initial(var).as_slice(), &mut notes.marks)?;
+    log.needed(var, book.initial(var).as_slice(), &mut notes.steps)?;
     write_steps(book, log, notes, out)?;
     write_wipe(book, var, out, &mut notes.buffer)
 }
@@ -75,39 +74,16 @@ fn write_steps<K: Sink>(
     notes: &mut Notes,
     out: &mut K,
 ) -> Result<(), WriteStop>
-    requires steps { AreSteps log.now.log notes.old.marks }
+    requires steps { AreSteps log.now.log notes.old.steps.items }
     requires logged { All (IsWritable book.now) log.now.log }
     ensures text { (undone : List PairTerm) → AreNumbers undone notes.old.numbers → Writes (K.state out.old) (K.state out.new)
-        (flat_map (step_line book.now undone (marked notes.old.marks.steps.items log.now.log)) (marked notes.old.marks.steps.items log.now.log)) result }
+        (flat_map (step_line book.now undone (removals_at log.now.log notes.old.steps.items)) (removals_at log.now.log notes.old.steps.items)) result }
     ensures numbers { notes.new.numbers ≡ notes.old.numbers }
 {
-    for place in 0..log.removals() {
-        write_step(book, log, place, notes, out)?;
+    for index in 0..notes.steps.len() {
+        write_removal(book, log, notes.steps[index], notes, out)?;
     }
     Ok(())
-}
-
-/// Writes the removal at a place, where it is a step.
-fn write_step<K: Sink>(
-    book: &Book,
-    log: &ExplainStore,
-    place: usize,
-    notes: &mut Notes,
-    out: &mut K,
-) -> Result<(), WriteStop>
-    requires steps { AreSteps log.now.log notes.old.marks }
-    requires logged { All (IsWritable book.now) log.now.log }
-    requires place { place < length log.now.log }
-    ensures text { (undone : List PairTerm) → AreNumbers undone notes.old.numbers → Writes (K.state out.old) (K.state out.new)
-        (flat_map (step_line book.now undone (marked notes.old.marks.steps.items log.now.log)) (marked_at notes.old.marks.steps.items log.now.log place)) result }
-    ensures numbers { notes.new.numbers ≡ notes.old.numbers }
-    ensures marks { notes.new.marks ≡ notes.old.marks }
-{
-    let is_step = notes.marks.steps[place];
-    if !is_step {
-        return Ok(());
-    }
-    write_removal(book, log, place, notes, out)
 }
 
 /// Writes the removal at a place as a step, and why it was made.
@@ -118,14 +94,13 @@ fn write_removal<K: Sink>(
     notes: &mut Notes,
     out: &mut K,
 ) -> Result<(), WriteStop>
-    requires steps { AreSteps log.now.log notes.old.marks }
+    requires steps { AreSteps log.now.log notes.old.steps.items }
     requires logged { All (IsWritable book.now) log.now.log }
-    requires place { place < length log.now.log }
-    requires step { slice_get notes.old.marks.steps.items place ≡ Some true }
-    ensures text { (undone : List PairTerm) (r : Removal) → AreNumbers undone notes.old.numbers → slice_get log.now.log place ≡ Some r
-        → Writes (K.state out.old) (K.state out.new) (step_line book.now undone (marked notes.old.marks.steps.items log.now.log) r) result }
+    requires step { Contains notes.old.steps.items place }
+    ensures text { (undone : List PairTerm) → AreNumbers undone notes.old.numbers → Writes (K.state out.old) (K.state out.new)
+        (flat_map (step_line book.now undone (removals_at log.now.log notes.old.steps.items)) (removals_at log.now.log (place ∷ []))) result }
     ensures numbers { notes.new.numbers ≡ notes.old.numbers }
-    ensures marks { notes.new.marks ≡ notes.old.marks }
+    ensures steps { notes.new.steps ≡ notes.old.steps }
 {
     let pair = log.pair_at(place);
     match log.by_at(place) {
@@ -135,7 +110,7 @@ fn write_removal<K: Sink>(
             write_given(book, &pair, number, out, &mut notes.buffer)
         }
         Cid::User(by) => {
-            collect_numbers(log, &notes.marks, place, &mut notes.reasons)?;
+            collect_numbers(log, &notes.steps, place, &mut notes.reasons)?;
             write_by(book, &pair, by, &notes.reasons, out, &mut notes.buffer)
         }
     }

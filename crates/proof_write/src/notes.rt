@@ -7,7 +7,6 @@ ghost use Rattle.proof_write.specs.Numbers.{AreNumbers};
 
 use crate::numbers::LemmaNumbers;
 use palm_base::NoMemory;
-use palm_cert::StepMarks;
 use palm_search::Turn;
 use std::alloc::Global;
 
@@ -16,8 +15,8 @@ use std::alloc::Global;
 pub(crate) struct Notes {
     /// Which lemma gave which negation.
     pub(crate) numbers: LemmaNumbers,
-    /// Which removals are steps of the lemma.
-    pub(crate) marks: StepMarks,
+    /// The places in the log of the removals that are steps of the lemma, rising: the first step has the number 1.
+    pub(crate) steps: Vec<usize>,
     /// The numbers of the steps that proved the reasons of one.
     pub(crate) reasons: Vec<usize>,
     /// A line.
@@ -31,7 +30,7 @@ impl Notes {
     {
         Notes {
             numbers: LemmaNumbers::new(alloc),
-            marks: StepMarks::new(alloc),
+            steps: Vec::new(alloc),
             reasons: Vec::new(alloc),
             buffer: Vec::new(alloc),
         }

@@ -12,7 +12,8 @@ use Rattle.palm_book.specs.Book.{AreValues, BookVar, values_at}
 use Rattle.palm_book.specs.declared.limits.TheConstants.{MOST_VARIABLES}
 use Rattle.palm_claim.specs.Statement.{IsStepNumber}
 use Rattle.palm_model.specs.Log.{Removal, log_pairs}
-use Rattle.palm_cert.specs.Certificate.{is_asked, numbers_from, numbers_of, pairs_with}
+use Rattle.palm_explain.specs.Needed.{pairs_with}
+use Rattle.palm_cert.specs.Certificate.{is_asked, numbers_from, numbers_of}
 use Rattle.palm_cert.proofs.cited.Links.{Apart, asked_member}
 use Rattle.palm_cert.proofs.cited.Numbers.{numbers_member}
 

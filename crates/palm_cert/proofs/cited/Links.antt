@@ -1,5 +1,5 @@
 -- Linked logs: no pair has two places, and the reasons of what a claim needs are needed.
-use Rattle.std.proofs.Common.{◌≡◌, ℕ, zero, suc, Bool, true, false, cond, Some, List, [], ◌∷◌, ◌++◌, Contains, inl, inr, ◌⊎◌, append_assoc, refl, sym, ap, subst}
+use Rattle.std.proofs.Common.{◌≡◌, ℕ, zero, suc, Bool, true, false, cond, Some, List, [], ◌∷◌, ◌++◌, filter, Contains, inl, inr, ◌⊎◌, append_assoc, refl, sym, ap, subst}
 use Rattle.std.specs.Prelude.{slice_get}
 use Rattle.std.proofs.lemmas.Bool.{false≢true}
 use Rattle.std.proofs.lemmas.List.Elements.{Contains-append_left, Contains-append_right, Contains-append_cases}
@@ -10,8 +10,6 @@ use Rattle.palm_model.specs.Log.{Removal, log_pairs}
 use Rattle.palm_model.proofs.cited.Without.{among_member, member_among}
 use Rattle.palm_explain.specs.Explanations.{AreLinked, IsLinked}
 use Rattle.palm_cert.specs.Certificate.{asked, is_asked, steps_of}
-use Rattle.palm_cert.specs.Needs.{marked}
-use Rattle.palm_cert.proofs.cited.Marked.{marked_member}
 
 -- ---- pairs of logs
 
@@ -57,17 +55,19 @@ same_place (q ∷ ps) apart zero (suc k) p e f = absurd (apart.0 (member_same ps
 same_place (q ∷ ps) apart (suc j) zero p e f = absurd (apart.0 (member_same ps p q (sym (same_Some q p f)) (member_get ps j p e)))
 same_place (q ∷ ps) apart (suc j) (suc k) p e f = ap suc (same_place ps apart.1 j k p e f)
 
-pub marked_pair : (marks : List Bool) (log : List Removal) (p : Pair) → Contains (log_pairs (marked marks log)) p → Contains (log_pairs log) p
-marked_pair marks log p m =
-    let r = pair_removal (marked marks log) p m in
-    let q = marked_member marks log r.0 r.1 in
-    member_same (log_pairs log) r.0.pair p r.2 (pair_logged log r.0 (member_get log q.0 r.0 q.1))
+-- of the removals that pass a test too
+pub passed_pair : (t : Removal → Bool) (log : List Removal) (p : Pair) → Contains (log_pairs (filter t log)) p → Contains (log_pairs log) p
+passed_pair t log p m =
+    let r = pair_removal (filter t log) p m in
+    member_same (log_pairs log) r.0.pair p r.2 (pair_logged log r.0 (filter_member t log r.0 r.1).0)
 
-pub apart_marked : (marks : List Bool) (log : List Removal) → Apart (log_pairs log) → Apart (log_pairs (marked marks log))
-apart_marked [] log apart = tt
-apart_marked (b ∷ marks) [] apart = tt
-apart_marked (true ∷ marks) (r ∷ log) apart = (λ m. apart.0 (marked_pair marks log r.pair m), apart_marked marks log apart.1)
-apart_marked (false ∷ marks) (r ∷ log) apart = apart_marked marks log apart.1
+apart_cond : (b : Bool) (r : Removal) (log : List Removal) → (Contains (log_pairs log) r.pair → ⊥) → Apart (log_pairs log) → Apart (log_pairs (cond b (r ∷ log) log))
+apart_cond true r log fresh apart = (fresh, apart)
+apart_cond false r log fresh apart = apart
+
+pub apart_passed : (t : Removal → Bool) (log : List Removal) → Apart (log_pairs log) → Apart (log_pairs (filter t log))
+apart_passed t [] apart = tt
+apart_passed t (r ∷ log) apart = apart_cond (t r) r (filter t log) (λ m. apart.0 (passed_pair t log r.pair m)) (apart_passed t log apart.1)
 
 -- ---- what is asked for
 

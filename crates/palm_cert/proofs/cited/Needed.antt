@@ -13,20 +13,20 @@ use Rattle.palm_base.specs.Order.{same_cid}
 use Rattle.palm_model.specs.Log.{Active, AreRight, IsRight, IsWellFounded, Removal, Names, NamesOfPair, log_pairs}
 use Rattle.palm_model.specs.Log.Names.{by_itself, by_reason}
 use Rattle.palm_explain.specs.Explanations.{AreLinked, IsLinked, NamesOfSome}
-use Rattle.palm_cert.specs.Certificate.{asked, is_asked, is_cited, pairs_with, steps_of}
-use Rattle.palm_cert.specs.Needed.{IsNeeded}
-use Rattle.palm_cert.specs.Needed.IsNeeded.{is_claimed, is_reason}
-use Rattle.palm_cert.proofs.cited.Links.{asked_cases, asked_member, claimed_asked, member_asked, pair_logged, pair_removal, reasons_asked}
+use Rattle.palm_explain.specs.Needed.{IsNeeded, pairs_with}
+use Rattle.palm_explain.specs.Needed.IsNeeded.{is_claimed, is_reason}
+use Rattle.palm_cert.specs.Certificate.{asked, is_asked, is_cited, steps_of}
+use Rattle.palm_cert.proofs.cited.Links.{asked_cases, asked_member, claimed_asked, member_asked, pair_logged, pair_removal, passed_pair, reasons_asked}
 
 module _ (log : List Removal) (pairs : List Pair) where
-  asked_needed : (later : List Removal) → ((r : Removal) → Contains later r → Contains log r) → (p : Pair) → Contains (asked later pairs) p → IsNeeded log pairs p
+  pub asked_needed : (later : List Removal) → ((r : Removal) → Contains later r → Contains log r) → (p : Pair) → Contains (asked later pairs) p → IsNeeded log pairs p
   asked_needed [] inside p m = is_claimed p m
   asked_needed (s ∷ later) inside p m = elim (asked_cases (is_asked (asked later pairs) s.pair) (asked later pairs) s.reasons p m) [
     | inl k ↦ asked_needed later (λ r n. inside r (member_there s later r n)) p k
     | inr k ↦ is_reason s p (inside s (member_here s later)) (asked_needed later (λ r n. inside r (member_there s later r n)) s.pair (asked_member (asked later pairs) s.pair k.0)) k.1
   ]
 
-  needed_asked : IsLinked log → (p : Pair) → IsNeeded log pairs p → Contains (asked log pairs) p
+  pub needed_asked : IsLinked log → (p : Pair) → IsNeeded log pairs p → Contains (asked log pairs) p
   needed_asked linked _ (is_claimed p m) = claimed_asked log pairs p m
   needed_asked linked _ (is_reason r p m n k) = reasons_asked log pairs linked r p m (needed_asked linked r.pair n) k
 
@@ -95,11 +95,6 @@ filter_push t (y ∷ ys) x = ap (λ zs. cond (t y) (y ∷ zs) zs) (filter_push t
     out : (b : Bool) (zs : List Removal) → cond b (y ∷ filter t ys ++ zs) (filter t ys ++ zs) ≡ cond b (y ∷ filter t ys) (filter t ys) ++ zs
     out true zs = refl
     out false zs = refl
-
-passed_pair : (t : Removal → Bool) (log : List Removal) (p : Pair) → Contains (log_pairs (filter t log)) p → Contains (log_pairs log) p
-passed_pair t log p m =
-    let r = pair_removal (filter t log) p m in
-    member_same (log_pairs log) r.0.pair p r.2 (pair_logged log r.0 (filter_member t log r.0 r.1).0)
 
 pub right_linked : (initial : Domains) (active : List Active) (earlier later : List Removal) → AreRight initial active earlier later → AreLinked earlier later
 right_linked initial active earlier [] right = tt

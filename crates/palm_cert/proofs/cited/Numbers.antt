@@ -17,41 +17,13 @@ use Rattle.palm_base.specs.declared.terms.Pair.{Pair}
 use Rattle.palm_base.proofs.cited.Members.{member_nil, member_here, member_there, member_cases, member_same}
 use Rattle.palm_model.specs.Log.{Removal, log_pairs}
 use Rattle.palm_cert.specs.Certificate.{is_asked, numbers_from, numbers_of}
-use Rattle.palm_cert.specs.Needs.{IsNumberOf, marked, numbered}
-use Rattle.palm_cert.proofs.cited.Links.{Apart, asked_member, member_asked, pair_removal, same_place}
-use Rattle.palm_cert.proofs.cited.Marked.{marked_member}
-
--- ---- the number at a place
-
-numbered_at : (n : ℕ) (marks : List Bool) (log : List Removal) (place : ℕ) (r : Removal) → slice_get marks place ≡ Some true → slice_get log place ≡ Some r
-    → (k : ℕ) → slice_get (numbered n marks) place ≡ Some k → (n ≤ k) × (slice_get (marked marks log) (k - n) ≡ Some r)
-numbered_at n [] log place r mark at k num = absurd (none-some true mark)
-numbered_at n (b ∷ marks) [] place r mark at k num = absurd (none-some r at)
-numbered_at n (true ∷ marks) (s ∷ log) zero r mark at k num =
-    let e : n ≡ k = same_Some n k num in
-    let first : k - n ≡ 0 = omega (arith, e) in
-    (omega (arith, e), ap (λ (i : ℕ). slice_get (s ∷ marked marks log) i) first ∙ at)
-numbered_at n (false ∷ marks) (s ∷ log) zero r mark at k num = absurd (false≢true (same_Some false true mark))
-numbered_at n (true ∷ marks) (s ∷ log) (suc place) r mark at k num =
-    let q = numbered_at (n + 1) marks log place r mark at k num in
-    let later : k - n ≡ suc (k - (n + 1)) = omega (arith, q.0) in
-    (omega (arith, q.0), ap (λ (i : ℕ). slice_get (s ∷ marked marks log) i) later ∙ q.1)
-numbered_at n (false ∷ marks) (s ∷ log) (suc place) r mark at k num = numbered_at n marks log place r mark at k num
+use Rattle.palm_cert.specs.Needs.{IsNumberOf}
+use Rattle.palm_cert.proofs.cited.Links.{Apart, asked_member, member_asked, same_place}
 
 pub pair_at : (log : List Removal) (place : ℕ) (r : Removal) → slice_get log place ≡ Some r → slice_get (log_pairs log) place ≡ Some r.pair
 pair_at [] place r at = absurd (none-some r at)
 pair_at (s ∷ log) zero r at = ap (λ (z : Removal). Some z.pair) (same_Some s r at)
 pair_at (s ∷ log) (suc place) r at = pair_at log place r at
-
--- the number that stands at the place of a step's pair
-pub number_found : (marks : List Bool) (log : List Removal) → Apart (log_pairs log) → (place : ℕ) (p : Pair) → slice_get (log_pairs log) place ≡ Some p → Contains (log_pairs (marked marks log)) p
-    → (k : ℕ) → slice_get (numbered 1 marks) place ≡ Some k → IsNumberOf (marked marks log) k p
-number_found marks log apart place p at m k num =
-    let r = pair_removal (marked marks log) p m in
-    let q = marked_member marks log r.0 r.1 in
-    let e : q.0 ≡ place = same_place (log_pairs log) apart q.0 place p (pair_at log q.0 r.0 q.1 ∙ ap Some r.2) at in
-    let n = numbered_at 1 marks log q.0 r.0 q.2 q.1 k (ap (λ (i : ℕ). slice_get (numbered 1 marks) i) e ∙ num) in
-    record { positive = n.0; at = pair_at (marked marks log) (k - 1) r.0 n.1 ∙ ap Some r.2 }
 
 -- ---- the numbers of the steps that proved some pairs
 
@@ -115,7 +87,7 @@ numbers_rise n [] pairs = tt
 numbers_rise n (r ∷ steps) pairs =
     rising_cond (is_asked pairs r.pair) n (numbers_from (n + 1) steps pairs) (λ k m. omega (arith, (numbers_member (n + 1) steps pairs k m).from)) (numbers_rise (n + 1) steps pairs)
 
-rising_from : (xs : List ℕ) → AllPairs (λ (x y : ℕ). x < y) xs → Rising xs
+pub rising_from : (xs : List ℕ) → AllPairs (λ (x y : ℕ). x < y) xs → Rising xs
 rising_from [] below = tt
 rising_from (x ∷ xs) below = (
   λ y m. subst (λ (z : ℕ). x < z) m.2 (below 0 (suc m.0) y (omega arith) (omega (arith, m.1))),
@@ -131,7 +103,7 @@ same_heads x y xs ys r s to from = elim (member_cases y ys x to) [
 tail_member : (x y z : ℕ) (xs ys : List ℕ) → x ≡ y → Rising (x ∷ xs) → Contains xs z → Contains (y ∷ ys) z → Contains ys z
 tail_member x y z xs ys e r c d = elim (member_cases y ys z d) [ inl s ↦ absurd (omega (arith, r.0 z c, e, s)) | inr m ↦ m ]
 
-same_rising : (xs ys : List ℕ) → Rising xs → Rising ys → ((z : ℕ) → Contains xs z → Contains ys z) → ((z : ℕ) → Contains ys z → Contains xs z) → xs ≡ ys
+pub same_rising : (xs ys : List ℕ) → Rising xs → Rising ys → ((z : ℕ) → Contains xs z → Contains ys z) → ((z : ℕ) → Contains ys z → Contains xs z) → xs ≡ ys
 same_rising [] [] r s to from = refl
 same_rising [] (y ∷ ys) r s to from = absurd (member_nil y (from y (member_here y ys)))
 same_rising (x ∷ xs) [] r s to from = absurd (member_nil x (to x (member_here x xs)))

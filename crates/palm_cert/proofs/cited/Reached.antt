@@ -12,7 +12,7 @@ use Rattle.palm_model.specs.Domains.{Domains, Has, values_of}
 use Rattle.palm_model.specs.Log.{Removal, log_pairs}
 use Rattle.palm_model.specs.State.{EngineState, IsValid}
 use Rattle.palm_cert.specs.Certificate.{claimed, steps_of}
-use Rattle.palm_cert.specs.Needed.IsNeeded.{is_claimed}
+use Rattle.palm_explain.specs.Needed.IsNeeded.{is_claimed}
 use Rattle.palm_cert.specs.Needs.{CanClaim}
 use Rattle.palm_cert.proofs.cited.Links.{pair_logged, pair_removal}
 use Rattle.palm_cert.proofs.cited.Needed.{needed_step, right_linked}

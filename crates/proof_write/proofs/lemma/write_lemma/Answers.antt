@@ -1,9 +1,8 @@
 use Rattle.std.proofs.Common.{◌<◌, ◌++◌, ◌∙◌, List, All, length, flat_map, sym, ap, subst, append_assoc}
 use Rattle.std.proofs.lemmas.Result.{err_from_is_err_and}
 use Rattle.palm_base.specs.declared.terms.Pair.{Pair}
-use Rattle.palm_cert.specs.Certificate.{pairs_with}
-use Rattle.palm_cert.specs.Needs.{marked}
-use Rattle.palm_cert.proofs.cited.Made.{steps_made}
+use Rattle.palm_cert.specs.Needs.{removals_at}
+use Rattle.palm_explain.specs.Needed.{pairs_with}
 use Rattle.palm_lang.proofs.cited.Writes.{writes_front, writes_nothing, writes_text, writes_then, writes_within}
 use Rattle.palm_model.specs.Log.{Removal}
 use Rattle.palm_search.specs.Calls.{search_state}
@@ -26,7 +25,7 @@ write_front-requires g c =
 
 pub write_steps-requires-clause-steps : goal.write_steps-requires-clause-steps
 write_steps-requires-clause-steps g c =
-    steps_made c.log-log.result.now.log (pairs_with c.in-Some.var c.as_slice.result.now) c.mark_steps.new.marks c.in_ok-mark_steps.ensures c.removals.ensures.linked
+    record { pairs = pairs_with c.in-Some.var c.as_slice.result.now; linked = c.removals.ensures.linked; needed = c.in_ok-needed.ensures.ok }
 
 pub write_steps-requires-clause-logged : goal.write_steps-requires-clause-logged
 write_steps-requires-clause-logged g c =
@@ -47,9 +46,9 @@ returns-in_err-write_front-clause-lemma g c undone x are empty =
     (writes_text _ _ _ _ _ (sym (append_assoc first second third))
     (writes_front _ _ first (second ++ third) c.in_err-write_front.field-0.0 (writes_text _ _ _ _ _ same c.in_err-write_front.ensures)))
 
-pub returns-in_err-mark_steps-clause-lemma : goal.returns-in_err-mark_steps-clause-lemma
-returns-in_err-mark_steps-clause-lemma g c undone x are empty =
-    let p = err_from_is_err_and c.from_residual-in_err-mark_steps.result c.from_residual-in_err-mark_steps.ensures.1 in
+pub returns-in_err-needed-clause-lemma : goal.returns-in_err-needed-clause-lemma
+returns-in_err-needed-clause-lemma g c undone x are empty =
+    let p = err_from_is_err_and c.from_residual-in_err-needed.result c.from_residual-in_err-needed.ensures.1 in
     let book = c.args.book.now in
     let s = c.args.engine.now.state in
     let held = c.args.held.now in
@@ -68,12 +67,12 @@ returns-in_err-write_steps-clause-lemma g c undone x are empty =
     let s = c.args.engine.now.state in
     let held = c.args.held.now in
     let log = c.log-log.result.now.log in
-    let marks = c.mark_steps.new.marks in
+    let places = c.needed.new.places.items in
     let y = c.in-Some.var in
     let values = c.as_slice.ensures ∙ c.initial.ensures ∙ emptied_values book (search_state s c.args.search.now) c.requires.fits y in
-    let steps = marked marks.steps.items log in
-    let text = lemma_made book undone (held_decisions c.args.search.now.decisions held) (held_decisions c.decisions.result.now held) s log marks c.as_slice.result.now x y
-    (ap (λ (ds : List Pair). held_decisions ds held) c.decisions.ensures) c.log-log.ensures values c.in_ok-mark_steps.ensures (sym (c.in-Some.ensures.only x empty)) in
+    let steps = removals_at log places in
+    let text = lemma_made book undone (held_decisions c.args.search.now.decisions held) (held_decisions c.decisions.result.now held) s log places c.as_slice.result.now x y
+    (ap (λ (ds : List Pair). held_decisions ds held) c.decisions.ensures) c.log-log.ensures values c.removals.ensures.linked c.in_ok-needed.ensures.ok (sym (c.in-Some.ensures.only x empty)) in
     rw (p.1, p.2)
     (writes_within _ _ _ _ (lemma_line book.variables (held_decisions c.decisions.result.now held)) (flat_map (step_line book undone steps) steps) (wipe_line book.variables y) tt c.in_err-write_steps.field-0.0
     (sym text) c.in_ok-write_front.ensures (c.in_err-write_steps.ensures.text undone are))
@@ -84,10 +83,10 @@ returns-clause-lemma g c undone x are empty =
     let s = c.args.engine.now.state in
     let held = c.args.held.now in
     let log = c.log-log.result.now.log in
-    let marks = c.mark_steps.new.marks in
+    let places = c.needed.new.places.items in
     let y = c.in-Some.var in
     let values = c.as_slice.ensures ∙ c.initial.ensures ∙ emptied_values book (search_state s c.args.search.now) c.requires.fits y in
-    let text = lemma_made book undone (held_decisions c.args.search.now.decisions held) (held_decisions c.decisions.result.now held) s log marks c.as_slice.result.now x y
-    (ap (λ (ds : List Pair). held_decisions ds held) c.decisions.ensures) c.log-log.ensures values c.in_ok-mark_steps.ensures (sym (c.in-Some.ensures.only x empty)) in
+    let text = lemma_made book undone (held_decisions c.args.search.now.decisions held) (held_decisions c.decisions.result.now held) s log places c.as_slice.result.now x y
+    (ap (λ (ds : List Pair). held_decisions ds held) c.decisions.ensures) c.log-log.ensures values c.removals.ensures.linked c.in_ok-needed.ensures.ok (sym (c.in-Some.ensures.only x empty)) in
     writes_text _ _ _ _ _ text
     (writes_then _ _ _ _ _ tt _ (writes_then _ _ _ _ _ tt _ c.in_ok-write_front.ensures (c.in_ok-write_steps.ensures.text undone are)) c.write_wipe.ensures)

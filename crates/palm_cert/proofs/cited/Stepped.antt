@@ -1,0 +1,227 @@
+-- The removals at rising places: where they are those that pairs need, they are the steps.
+use Rattle.std.proofs.Common.{◌≡◌, ℕ, zero, suc, ◌+◌, ◌-◌, ◌<◌, ◌≤◌, Bool, true, false, cond, Some, List, [], ◌∷◌, ◌++◌, length, take, drop, get_or, filter, flat_map, All, Contains, MatchResult, Result, inl, inr, refl, sym, ap, ◌∙◌, subst, append-nil, arith}
+use Rattle.std.specs.Prelude.{slice_get}
+use Rattle.std.specs.List.Sorted.{IsBinarySearchResult}
+use Rattle.std.specs.Ordering.{nat_cmp}
+use Rattle.std.proofs.lemmas.Bool.{cases_lt}
+use Rattle.std.proofs.lemmas.Grind.{flat_map-append}
+use Rattle.std.proofs.lemmas.List.{take_all, take_more, take-append-drop}
+use Rattle.std.proofs.lemmas.List.Sorted.{searched}
+use Rattle.std.proofs.lemmas.Option.{none-some, same_Some, slice_get_within}
+use Rattle.palm_base.specs.declared.terms.Pair.{Pair}
+use Rattle.palm_base.proofs.cited.Members.{all_members, flat_map_member, member_cases, member_flat_map, member_here, member_nil, member_same, member_single, member_there}
+use Rattle.palm_model.specs.Log.{Removal, log_pairs}
+use Rattle.palm_explain.specs.Explanations.{IsLinked}
+use Rattle.palm_explain.specs.Needed.{AreNeeded, Climbs}
+use Rattle.palm_cert.specs.Certificate.{asked, is_asked, steps_of}
+use Rattle.palm_cert.specs.Needs.{AreSteps, IsNumberOf, removals_at}
+use Rattle.palm_cert.proofs.cited.Links.{Apart, apart_passed, asked_member, linked_apart, member_asked, pair_removal, reasons_steps, same_place}
+use Rattle.palm_cert.proofs.cited.Needed.{asked_needed, needed_asked}
+use Rattle.palm_cert.proofs.cited.Numbers.{Rising, pair_at, rising_from, same_rising}
+
+-- ---- one place
+
+drop_at : (log : List Removal) (place : ℕ) (r : Removal) → slice_get log place ≡ Some r → take 1 (drop place log) ≡ r ∷ []
+drop_at [] place r at = absurd (none-some r at)
+drop_at (s ∷ log) zero r at = ap (λ (z : Removal). z ∷ []) (same_Some s r at)
+drop_at (s ∷ log) (suc place) r at = drop_at log place r at
+
+at_drop : (log : List Removal) (place : ℕ) (r : Removal) → Contains (take 1 (drop place log)) r → slice_get log place ≡ Some r
+at_drop [] zero r m = absurd (member_nil r m)
+at_drop [] (suc place) r m = absurd (member_nil r m)
+at_drop (s ∷ log) zero r m = ap Some (member_single s r m)
+at_drop (s ∷ log) (suc place) r m = at_drop log place r m
+
+pub one_at : (log : List Removal) (place : ℕ) (r : Removal) → slice_get log place ≡ Some r → removals_at log (place ∷ []) ≡ r ∷ []
+one_at log place r at = append-nil (take 1 (drop place log)) ∙ drop_at log place r at
+
+pub member_at : (log : List Removal) (places : List ℕ) (place : ℕ) (r : Removal) → Contains places place → slice_get log place ≡ Some r → Contains (removals_at log places) r
+member_at log places place r m at = member_flat_map (λ i. take 1 (drop i log)) places place r m (subst (λ (rs : List Removal). Contains rs r) (sym (drop_at log place r at)) (member_here r []))
+
+pub at_member : (log : List Removal) (places : List ℕ) (r : Removal) → Contains (removals_at log places) r → (place : ℕ) × Contains places place × (slice_get log place ≡ Some r)
+at_member log places r m = let q = flat_map_member (λ i. take 1 (drop i log)) places r m in (q.0, q.1, at_drop log q.0 r q.2)
+
+-- the one at an index
+pub nth_at : (log : List Removal) (places : List ℕ) → ((i : ℕ) → Contains places i → (r : Removal) × (slice_get log i ≡ Some r)) → (j place : ℕ) (r : Removal) → slice_get places j ≡ Some place → slice_get log place ≡ Some r
+    → slice_get (removals_at log places) j ≡ Some r
+nth_at log [] within j place r there at = absurd (none-some place there)
+nth_at log (q ∷ places) within zero place r there at =
+    let e : q ≡ place = same_Some q place there in
+    ap (λ (rs : List Removal). slice_get (rs ++ removals_at log places) 0) (drop_at log q r (ap (λ (i : ℕ). slice_get log i) e ∙ at))
+nth_at log (q ∷ places) within (suc j) place r there at =
+    let s = within q (member_here q places) in
+    ap (λ (rs : List Removal). slice_get (rs ++ removals_at log places) (suc j)) (drop_at log q s.0 s.1)
+    ∙ nth_at log places (λ i m. within i (member_there q places i m)) j place r there at
+
+pub removals_more : (log : List Removal) (places : List ℕ) (i place : ℕ) (r : Removal) → i < length places → place ≡ get_or places i place → slice_get log place ≡ Some r → removals_at log (take i places) ++ r ∷ [] ≡ removals_at log (take (i + 1) places)
+removals_more log places i place r lt at there =
+    ap (λ (rs : List Removal). removals_at log (take i places) ++ rs) (sym (one_at log place r there))
+    ∙ sym (flat_map-append (λ j. take 1 (drop j log)) (take i places) (place ∷ []))
+    ∙ ap (λ (p : ℕ). removals_at log (take i places ++ p ∷ [])) at
+    ∙ ap (λ (ps : List ℕ). removals_at log ps) (sym (take_more places i place lt))
+
+-- ---- texts
+
+pub text_one_at : (f : Removal → List ℕ) (log : List Removal) (place : ℕ) (r : Removal) → slice_get log place ≡ Some r → f r ≡ flat_map f (removals_at log (place ∷ []))
+text_one_at f log place r at = sym (ap (λ (rs : List Removal). flat_map f rs) (one_at log place r at) ∙ append-nil (f r))
+
+module _ (f : Removal → List ℕ) (log : List Removal) (places : List ℕ) (i : ℕ) where
+  abbrev texts : List ℕ → List ℕ
+  texts ps = flat_map f (removals_at log ps)
+
+  texts_both : (ps qs : List ℕ) → texts (ps ++ qs) ≡ texts ps ++ texts qs
+  texts_both ps qs = ap (λ (rs : List Removal). flat_map f rs) (flat_map-append (λ j. take 1 (drop j log)) ps qs) ∙ flat_map-append f (removals_at log ps) (removals_at log qs)
+
+  pub text_more : (place : ℕ) → i < length places → place ≡ get_or places i place → flat_map f (removals_at log (take i places)) ++ flat_map f (removals_at log (place ∷ [])) ≡ flat_map f (removals_at log (take (i + 1) places))
+  text_more place lt at = sym (texts_both (take i places) (place ∷ [])) ∙ ap (λ (p : ℕ). texts (take i places ++ p ∷ [])) at ∙ ap texts (sym (take_more places i place lt))
+
+  pub text_parts : (place : ℕ) → i < length places → place ≡ get_or places i place
+      → flat_map f (removals_at log places) ≡ (flat_map f (removals_at log (take i places)) ++ flat_map f (removals_at log (place ∷ []))) ++ flat_map f (removals_at log (drop (i + 1) places))
+  text_parts place lt at = ap texts (sym (take-append-drop (i + 1) places)) ∙ texts_both (take (i + 1) places) (drop (i + 1) places) ∙ ap (λ (t : List ℕ). t ++ texts (drop (i + 1) places)) (sym (text_more place lt at))
+
+  pub text_whole : length places ≤ i → flat_map f (removals_at log (take i places)) ≡ flat_map f (removals_at log places)
+  text_whole le = ap texts (take_all i places le)
+
+-- ---- places by a test
+
+abbrev places_from : ℕ → (Removal → Bool) → List Removal → List ℕ
+places_from n t [] = []
+places_from n t (r ∷ log) = cond (t r) (n ∷ places_from (n + 1) t log) (places_from (n + 1) t log)
+
+-- the removal that passes stands there
+record IsPassed (n : ℕ) (t : Removal → Bool) (log : List Removal) (i : ℕ) : Type 0 where
+  from : n ≤ i
+  removal : Removal
+  at : slice_get log (i - n) ≡ Some removal
+  passes : t removal ≡ true
+
+passed_later : (n : ℕ) (t : Removal → Bool) (r : Removal) (log : List Removal) (i : ℕ) → IsPassed (n + 1) t log i → IsPassed n t (r ∷ log) i
+passed_later n t r log i p =
+    let e : i - n ≡ suc (i - (n + 1)) = omega (arith, p.from) in
+    record { from = omega (arith, p.from); removal = p.removal; at = ap (λ (k : ℕ). slice_get (r ∷ log) k) e ∙ p.at; passes = p.passes }
+
+passed_cases : (n : ℕ) (t : Removal → Bool) (r : Removal) (log : List Removal) (i : ℕ) (ps : List ℕ) (b : Bool) → t r ≡ b → (Contains ps i → IsPassed (n + 1) t log i) → Contains (cond b (n ∷ ps) ps) i → IsPassed n t (r ∷ log) i
+passed_cases n t r log i ps true e later m = elim (member_cases n ps i m) [
+  | inl here ↦ let first : i - n ≡ 0 = omega (arith, here) in record { from = omega (arith, here); removal = r; at = ap (λ (j : ℕ). slice_get (r ∷ log) j) first; passes = e }
+  | inr k ↦ passed_later n t r log i (later k)
+]
+passed_cases n t r log i ps false e later m = passed_later n t r log i (later m)
+
+place_passed : (n : ℕ) (t : Removal → Bool) (log : List Removal) (i : ℕ) → Contains (places_from n t log) i → IsPassed n t log i
+place_passed n t [] i m = absurd (member_nil i m)
+place_passed n t (r ∷ log) i m = passed_cases n t r log i (places_from (n + 1) t log) (t r) refl (place_passed (n + 1) t log i) m
+
+cond_there : (b : Bool) (n : ℕ) (ps : List ℕ) (i : ℕ) → Contains ps i → Contains (cond b (n ∷ ps) ps) i
+cond_there true n ps i m = member_there n ps i m
+cond_there false n ps i m = m
+
+cond_here : (b : Bool) (n : ℕ) (ps : List ℕ) → b ≡ true → Contains (cond b (n ∷ ps) ps) n
+cond_here true n ps e = member_here n ps
+cond_here false n ps e = cc
+
+passed_place : (n : ℕ) (t : Removal → Bool) (log : List Removal) (j : ℕ) (r : Removal) → slice_get log j ≡ Some r → t r ≡ true → Contains (places_from n t log) (n + j)
+passed_place n t [] j r at e = absurd (none-some r at)
+passed_place n t (s ∷ log) zero r at e =
+    let same : n ≡ n + 0 = omega arith in
+    member_same (places_from n t (s ∷ log)) n (n + 0) same (cond_here (t s) n (places_from (n + 1) t log) (ap t (same_Some s r at) ∙ e))
+passed_place n t (s ∷ log) (suc j) r at e =
+    let same : (n + 1) + j ≡ n + suc j = omega arith in
+    member_same (places_from n t (s ∷ log)) ((n + 1) + j) (n + suc j) same (cond_there (t s) n (places_from (n + 1) t log) ((n + 1) + j) (passed_place (n + 1) t log j r at e))
+
+rising_cond : (b : Bool) (n : ℕ) (ps : List ℕ) → ((i : ℕ) → Contains ps i → n < i) → Rising ps → Rising (cond b (n ∷ ps) ps)
+rising_cond true n ps above rising = (above, rising)
+rising_cond false n ps above rising = rising
+
+places_rise : (n : ℕ) (t : Removal → Bool) (log : List Removal) → Rising (places_from n t log)
+places_rise n t [] = tt
+places_rise n t (r ∷ log) = rising_cond (t r) n (places_from (n + 1) t log) (λ i m. let p = place_passed (n + 1) t log i m in let from = p.from in omega (arith, from)) (places_rise (n + 1) t log)
+
+flat_map_same : (f g : ℕ → List Removal) (ps : List ℕ) → ((i : ℕ) → Contains ps i → f i ≡ g i) → flat_map f ps ≡ flat_map g ps
+flat_map_same f g [] same = refl
+flat_map_same f g (p ∷ ps) same = ap (λ rs. rs ++ flat_map f ps) (same p (member_here p ps)) ∙ ap (λ rs. g p ++ rs) (flat_map_same f g ps (λ i m. same i (member_there p ps i m)))
+
+are_cases : (n : ℕ) (r : Removal) (log : List Removal) (ps : List ℕ) (rs : List Removal) (b : Bool) → flat_map (λ i. take 1 (drop (i - n) (r ∷ log))) ps ≡ rs
+    → flat_map (λ i. take 1 (drop (i - n) (r ∷ log))) (cond b (n ∷ ps) ps) ≡ cond b (r ∷ rs) rs
+are_cases n r log ps rs true rest = let e : n - n ≡ 0 = omega arith in ap (λ (k : ℕ). take 1 (drop k (r ∷ log)) ++ flat_map (λ i. take 1 (drop (i - n) (r ∷ log))) ps) e ∙ ap (λ (qs : List Removal). r ∷ qs) rest
+are_cases n r log ps rs false rest = rest
+
+-- the removals at the places of those that pass are those that pass
+passed_are : (n : ℕ) (t : Removal → Bool) (log : List Removal) → flat_map (λ i. take 1 (drop (i - n) log)) (places_from n t log) ≡ filter t log
+passed_are n t [] = refl
+passed_are n t (r ∷ log) =
+    are_cases n r log (places_from (n + 1) t log) (filter t log) (t r)
+    (flat_map_same (λ i. take 1 (drop (i - n) (r ∷ log))) (λ i. take 1 (drop (i - (n + 1)) log)) (places_from (n + 1) t log)
+    (λ i m. let from = (place_passed (n + 1) t log i m).from in let e : i - n ≡ suc (i - (n + 1)) = omega (arith, from) in ap (λ (k : ℕ). take 1 (drop k (r ∷ log))) e)
+    ∙ passed_are (n + 1) t log)
+
+-- ---- the places of what pairs need
+
+module _ (log : List Removal) (pairs : List Pair) (places : List ℕ) (linked : IsLinked log) (needed : AreNeeded log pairs places) where
+  abbrev is_step : Removal → Bool
+  is_step r = is_asked (asked log pairs) r.pair
+
+  places_are : places ≡ places_from 0 is_step log
+  places_are =
+      same_rising places (places_from 0 is_step log) (rising_from places needed.climbs) (places_rise 0 is_step log)
+      (λ i m.
+      let r = (needed.each i).0 m in
+      let e : 0 + i ≡ i = omega arith in
+      member_same (places_from 0 is_step log) (0 + i) i e (passed_place 0 is_step log i r.0 r.1 (member_asked (asked log pairs) r.0.pair (needed_asked log pairs linked r.0.pair r.2))))
+      (λ i m.
+      let p = place_passed 0 is_step log i m in
+      let e : i - 0 ≡ i = omega arith in
+      (needed.each i).1 (p.removal, ap (λ (k : ℕ). slice_get log k) (sym e) ∙ p.at, asked_needed log pairs log (λ r k. k) p.removal.pair (asked_member (asked log pairs) p.removal.pair p.passes)))
+
+  -- they are those of the steps
+  pub steps_found : removals_at log places ≡ steps_of log pairs
+  steps_found =
+      ap (λ (ps : List ℕ). removals_at log ps) places_are
+      ∙ flat_map_same (λ i. take 1 (drop i log)) (λ i. take 1 (drop (i - 0) log)) (places_from 0 is_step log) (λ i m. let e : i ≡ i - 0 = omega arith in ap (λ (k : ℕ). take 1 (drop k log)) e)
+      ∙ passed_are 0 is_step log
+
+  pub step_stands : (i : ℕ) → Contains places i → (r : Removal) × (slice_get log i ≡ Some r)
+  step_stands i m = let r = (needed.each i).0 m in (r.0, r.1)
+
+  pub steps_within : All (λ place. place < length log) places
+  steps_within = all_members (λ (place : ℕ). place < length log) places (λ i m. let r = step_stands i m in slice_get_within log i r.0 r.1)
+
+-- ---- steps
+
+-- a place that is looked for among rising ones
+pub found_by_halves : (places : List ℕ) (place : ℕ) (r : Result ℕ ℕ) → Climbs places → IsBinarySearchResult (λ y. nat_cmp y place) places r
+    → MatchResult r (λ i. (i < length places) × (get_or places i 0 ≡ place)) (λ i. (i ≤ length places) × ((k : ℕ) → k < i → get_or places k 0 < place) × ((k : ℕ) → i ≤ k → k < length places → place < get_or places k 0))
+found_by_halves places place r climbs found = searched places place r found (λ i j le lt. elim (cases_lt i j) [
+  | inl l ↦ let less = climbs i j 0 l lt in omega (arith, less)
+  | inr ge ↦ let e : i ≡ j = omega (arith, le, ge) in let same = ap (λ (k : ℕ). get_or places k 0) e in omega (arith, same)
+])
+
+module _ (log : List Removal) (places : List ℕ) (steps : AreSteps log places) where
+  pub steps_apart : Apart (log_pairs (removals_at log places))
+  steps_apart =
+      subst (λ (rs : List Removal). Apart (log_pairs rs)) (sym (steps_found log steps.pairs places steps.linked steps.needed))
+      (apart_passed (λ (r : Removal). is_asked (asked log steps.pairs) r.pair) log (linked_apart log steps.linked))
+
+  -- the reasons of a step are pairs of steps
+  pub reasons_found : (r : Removal) (p : Pair) → Contains (removals_at log places) r → Contains r.reasons p → Contains (log_pairs (removals_at log places)) p
+  reasons_found r p m k =
+      let same = steps_found log steps.pairs places steps.linked steps.needed in
+      subst (λ (rs : List Removal). Contains (log_pairs rs) p) (sym same) (reasons_steps log steps.pairs steps.linked r p (subst (λ (rs : List Removal). Contains rs r) same m) k)
+
+  -- a pair of a step, by its place in the log
+  pub step_at : (place : ℕ) (p : Pair) → slice_get (log_pairs log) place ≡ Some p → Contains (log_pairs (removals_at log places)) p → Contains places place
+  step_at place p at m =
+      let r = pair_removal (removals_at log places) p m in
+      let q = at_member log places r.0 r.1 in
+      member_same places q.0 place (same_place (log_pairs log) (linked_apart log steps.linked) q.0 place p (pair_at log q.0 r.0 q.2 ∙ ap Some r.2) at) q.1
+
+  pub step_within : (place : ℕ) → Contains places place → place < length log
+  step_within place m = let r = step_stands log steps.pairs places steps.linked steps.needed place m in slice_get_within log place r.0 r.1
+
+  pub number_found : (place k : ℕ) (p : Pair) → slice_get (log_pairs log) place ≡ Some p → Contains places place → 1 ≤ k → slice_get places (k - 1) ≡ Some place → IsNumberOf (removals_at log places) k p
+  number_found place k p at m positive there =
+      let r = step_stands log steps.pairs places steps.linked steps.needed place m in
+      record {
+        positive = positive;
+        at = pair_at (removals_at log places) (k - 1) r.0 (nth_at log places (step_stands log steps.pairs places steps.linked steps.needed) (k - 1) place r.0 there r.1)
+            ∙ sym (pair_at log place r.0 r.1) ∙ at;
+      }

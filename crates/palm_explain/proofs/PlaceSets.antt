@@ -1,0 +1,301 @@
+-- Sets of places by words of 64: bits of a word, and what a new place and a search for the last one make of the words.
+use Rattle.std.proofs.Common.{◌≡◌, ◌≢◌, ℕ, suc, ◌+◌, ◌-◌, ◌*◌, ◌/◌, ◌%◌, ◌^◌, ◌<◌, ◌≤◌, List, length, get_or, set, insert, Contains, bit_or, nat_lt, nat_le, ◌⊎◌, inl, inr, refl, sym, ap, ◌∙◌, subst, arith, length-set, get_or-set_same, get_or-set_other, pow_pos, div-lt_iff_lt-mul, le-div_iff_mul-le}
+use Rattle.std.specs.Int.{bit_at}
+use Rattle.std.specs.List.Sorted.{IsPartitionedBy}
+use Rattle.std.proofs.Math.Nat.{two-pow-succ}
+use Rattle.std.proofs.lemmas.Bool.{cases_eq, cases_lt, ltb-true, ltb-false, leb-true, leb-false, lt-ltb, le-ltb, le-leb}
+use Rattle.std.proofs.lemmas.List.{get_or_default}
+use Rattle.std.proofs.lemmas.List.Edits.{length-insert, get_or-insert_below, get_or-insert_at, get_or-insert_above}
+use Rattle.std.proofs.lemmas.Nat.Bits.{bit_at_or, bit_at_above, bit_at-pow_same, bit_at-pow_other, bit_at-zero}
+use Rattle.palm_base.specs.Order.{IsPartedAt}
+use Rattle.palm_explain.specs.declared.places.PlaceWord.{PlaceWord}
+use Rattle.palm_explain.specs.Places.{ArePlaceWords, HasPlace, IsIn, IsLastBelow, IsLastIn, IsSearched, with_bit}
+
+-- ---- the bits of a word
+
+-- its last one
+pub top_bit : (n top : ℕ) → 2 ^ top ≤ n → n < 2 * 2 ^ top → (bit_at n top ≡ 1) × ((k : ℕ) → top < k → bit_at n k ≡ 0)
+top_bit n top low high =
+    let p = pow_pos top in
+    let less : n / 2 ^ top < 2 = (div-lt_iff_lt-mul p).1 high in
+    let some : 1 ≤ n / 2 ^ top = (le-div_iff_mul-le p).1 (omega arith) in (
+      omega arith,
+      λ k l. bit_at_above n (suc top) k (omega (arith, high, two-pow-succ top)) l,
+    )
+
+-- a new one, and the others
+bit_here : (n b k : ℕ) → k ≡ b → bit_at (bit_or n (2 ^ b)) k ≡ 1
+bit_here n b k e = subst (λ j. bit_at (bit_or n (2 ^ b)) j ≡ 1) (sym e) (omega (arith, bit_at_or n (2 ^ b) b, bit_at-pow_same b))
+
+bit_other : (n b k : ℕ) → k ≢ b → bit_at (bit_or n (2 ^ b)) k ≡ bit_at n k
+bit_other n b k apart = omega (arith, bit_at_or n (2 ^ b) k, bit_at-pow_other b k apart)
+
+-- ---- the last one of a word
+
+module _ (w : PlaceWord) (end low : ℕ) (aligned : w.start % 64 ≡ 0) (start : w.start < end) (same : (k : ℕ) → k < end - w.start → bit_at low k ≡ bit_at w.bits k) (none : (k : ℕ) → end - w.start ≤ k → bit_at low k ≡ 0) where
+  in_low : (p : ℕ) → IsIn w p → p < end → bit_at low (p % 64) ≡ 1
+  in_low p is lt = same (p % 64) (omega (arith, is.starts, lt, start)) ∙ is.one
+
+  pub none_in : low ≡ 0 → (p : ℕ) → IsIn w p → p < end → ⊥
+  none_in e p is lt = let one = in_low p is lt in let zero = ap (λ n. bit_at n (p % 64)) e ∙ bit_at-zero (p % 64) in omega (arith, one, zero)
+
+  pub top_in : (top : ℕ) → top < 64 → 2 ^ top ≤ low → low < 2 * 2 ^ top → IsLastIn w end (w.start + top)
+  top_in top small from below =
+      let t = top_bit low top from below in
+      let bit : (w.start + top) % 64 ≡ top = omega (arith, aligned, small) in
+      let within : top < end - w.start = elim (cases_lt top (end - w.start)) [
+        | inl l ↦ l
+        | inr ge ↦ let zero = none top ge in let one = t.0 in absurd (omega (arith, zero, one))
+      ] in
+      record {
+        is = record { starts = omega (arith, bit); one = ap (bit_at w.bits) bit ∙ sym (same top within) ∙ t.0 };
+        below = omega (arith, within, start);
+        last = λ p is lt. elim (cases_lt top (p % 64)) [
+          | inl l ↦ let one = in_low p is lt in let zero = t.1 (p % 64) l in absurd (omega (arith, one, zero))
+          | inr le ↦ omega (arith, le, is.starts)
+        ];
+      }
+
+-- ---- halves
+
+by_start : (words : List PlaceWord) → ArePlaceWords words → (i j : ℕ) (d : PlaceWord) → i ≤ j → j < length words → (get_or words j d).start ≤ (get_or words i d).start
+by_start words formed i j d le lt = elim (cases_lt i j) [
+  | inl l ↦ let falls = formed.falls i j d l lt in omega (arith, falls)
+  | inr ge ↦ let e : i ≡ j = omega arith in let same = ap (λ k. (get_or words k d).start) e in omega (arith, same)
+]
+
+pub behind_parted : (words : List PlaceWord) → ArePlaceWords words → (start : ℕ) → IsPartitionedBy (λ w. nat_lt start w.start) words
+behind_parted words formed start i j d le lt is =
+    let more = by_start words formed i j d le lt in
+    let far = ltb-true start (get_or words j d).start is in lt-ltb start (get_or words i d).start (omega (arith, more, far))
+
+pub from_parted : (words : List PlaceWord) → ArePlaceWords words → (end : ℕ) → IsPartitionedBy (λ w. nat_le end w.start) words
+from_parted words formed end i j d le lt is =
+    let more = by_start words formed i j d le lt in
+    let far = leb-true end (get_or words j d).start is in le-leb end (get_or words i d).start (omega (arith, more, far))
+
+-- a word that begins at the place parts the others
+pub parted_there : (words : List PlaceWord) → ArePlaceWords words → (start near : ℕ) → near < length words → ((d : PlaceWord) → (get_or words near d).start ≡ start) → IsPartedAt (λ w. nat_lt start w.start) words near
+parted_there words formed start near within is = record {
+  within = omega (arith, within);
+  before = λ k d ge lt. let falls = formed.falls k near d lt within in let at = is d in lt-ltb start (get_or words k d).start (omega (arith, falls, at));
+  after = λ k d ge lt. let less = by_start words formed near k d ge lt in let at = is d in le-ltb start (get_or words k d).start (omega (arith, less, at));
+}
+
+-- ---- a place that is added to a word
+
+module _ (words : List PlaceWord) (formed : ArePlaceWords words) (at place : ℕ) (within : at < length words) (starts : (d : PlaceWord) → (get_or words at d).start ≡ place - place % 64) (d : PlaceWord) where
+  abbrev old : PlaceWord
+  old = get_or words at d
+
+  abbrev new : PlaceWord
+  new = with_bit old (place % 64)
+
+  abbrev more : List PlaceWord
+  more = set words at new
+
+  start_same : (k : ℕ) (e : PlaceWord) → (get_or more k e).start ≡ (get_or words k e).start
+  start_same k e = elim (cases_eq k at) [
+    | inl same ↦ subst (λ j. (get_or more j e).start ≡ (get_or words j e).start) (sym same) (ap (λ (w : PlaceWord). w.start) (get_or-set_same words at new e within) ∙ starts d ∙ sym (starts e))
+    | inr apart ↦ ap (λ (w : PlaceWord). w.start) (get_or-set_other words at k new e apart)
+  ]
+
+  pub set_formed : ArePlaceWords more
+  set_formed = record {
+    falls = λ i j e l lt.
+        let old = formed.falls i j e l (subst (λ n. j < n) (length-set words at new) lt) in
+        let one = start_same i e in
+        let two = start_same j e in omega (arith, old, one, two);
+    aligned = λ i e lt. ap (λ n. n % 64) (start_same i e) ∙ formed.aligned i e (subst (λ n. i < n) (length-set words at new) lt);
+  }
+
+  new_there : Contains more new
+  new_there = (at, subst (λ n. at < n) (sym (length-set words at new)) within, get_or-set_same words at new new within)
+
+  pub set_there : HasPlace more place
+  set_there = (new, new_there, record { starts = starts d; one = bit_here old.bits (place % 64) (place % 64) refl })
+
+  pub set_stay : (p : ℕ) → HasPlace words p → HasPlace more p
+  set_stay p h = let w = h.0 in let m = h.1 in let is = h.2 in elim (cases_eq m.0 at) [
+    | inl same ↦
+        let e : old ≡ w = get_or_default words at d w within ∙ ap (λ k. get_or words k w) (sym same) ∙ m.2 in
+        let was = subst (λ (v : PlaceWord). IsIn v p) (sym e) is in (
+          new,
+          new_there,
+          record {
+            starts = was.starts;
+            one = elim (cases_eq (p % 64) (place % 64)) [
+              | inl bit ↦ bit_here old.bits (place % 64) (p % 64) bit
+              | inr apart ↦ bit_other old.bits (place % 64) (p % 64) apart ∙ was.one
+            ];
+          },
+        )
+    | inr apart ↦ (w, (m.0, subst (λ n. m.0 < n) (sym (length-set words at new)) m.1, get_or-set_other words at m.0 new w apart ∙ m.2), is)
+  ]
+
+  pub set_only : (p : ℕ) → HasPlace more p → HasPlace words p ⊎ (place ≡ p)
+  set_only p h =
+      let w = h.0 in
+      let m = h.1 in
+      let is = h.2 in
+      let lt = subst (λ n. m.0 < n) (length-set words at new) m.1 in
+      elim (cases_eq m.0 at) [
+        | inl same ↦
+            let e : new ≡ w = sym (get_or-set_same words at new w within) ∙ ap (λ k. get_or more k w) (sym same) ∙ m.2 in
+            let now = subst (λ (v : PlaceWord). IsIn v p) (sym e) is in
+            elim (cases_eq (p % 64) (place % 64)) [
+              | inl bit ↦ let one = starts d in let two = now.starts in inr (omega (arith, one, two, bit))
+              | inr apart ↦ inl (old, (at, within, get_or_default words at old d within), record { starts = now.starts; one = sym (bit_other old.bits (place % 64) (p % 64) apart) ∙ now.one })
+            ]
+        | inr apart ↦ inl (w, (m.0, lt, sym (get_or-set_other words at m.0 new w apart) ∙ m.2), is)
+      ]
+
+-- ---- a place in a word of its own
+
+module _ (words : List PlaceWord) (formed : ArePlaceWords words) (at place bits : ℕ) (parted : IsPartedAt (λ w. nat_lt (place - place % 64) w.start) words at)
+    (none : at < length words → ((d : PlaceWord) → (get_or words at d).start ≡ place - place % 64) → ⊥) (bit : bits ≡ 2 ^ (place % 64)) where
+  abbrev own : PlaceWord
+  own = record { start = place - place % 64; bits = bits }
+
+  abbrev longer : List PlaceWord
+  longer = insert words at own
+
+  before_at : (i : ℕ) (d : PlaceWord) → i < at → own.start < (get_or words i d).start
+  before_at i d l = ltb-true own.start (get_or words i d).start (parted.before i d (omega arith) l)
+
+  after_at : (i : ℕ) (d : PlaceWord) → at ≤ i → i < length words → (get_or words i d).start < own.start
+  after_at i d ge lt =
+      let most = ltb-false own.start (get_or words i d).start (parted.after i d ge lt) in
+      elim (cases_lt (get_or words i d).start own.start) [
+        | inl l ↦ l
+        | inr same ↦ elim (cases_eq i at) [
+          | inl e ↦ absurd (none (omega (arith, e, lt)) (λ f.
+              let there = get_or_default words at f d (omega (arith, e, lt)) in
+              let first : (get_or words at d).start ≡ own.start = subst (λ k. (get_or words k d).start ≡ own.start) e (omega (arith, same, most)) in
+              ap (λ (w : PlaceWord). w.start) there ∙ first))
+          | inr apart ↦
+              let falls = formed.falls at i d (omega (arith, ge, apart)) lt in
+              let first = ltb-false own.start (get_or words at d).start (parted.after at d (omega arith) (omega (arith, ge, lt))) in absurd (omega (arith, falls, first, same))
+        ]
+      ]
+
+  below : (k : ℕ) (d : PlaceWord) → k < at → get_or longer k d ≡ get_or words k d
+  below k d l = get_or-insert_below words at own d k l parted.within
+
+  here : (k : ℕ) (d : PlaceWord) → k ≡ at → get_or longer k d ≡ own
+  here k d e = ap (λ j. get_or longer j d) e ∙ get_or-insert_at words at own d parted.within
+
+  above : (k : ℕ) (d : PlaceWord) → at < k → get_or longer k d ≡ get_or words (k - 1) d
+  above k d l = let e : k ≡ k - 1 + 1 = omega (arith, l) in ap (λ j. get_or longer j d) e ∙ get_or-insert_above words at own d (k - 1) (omega (arith, l)) parted.within
+
+  -- a property of what stands at an index, from the three cases
+  cases_at : (P : ℕ → PlaceWord → Type 0) (k : ℕ) (d : PlaceWord) → k < length longer → (k < at → P k (get_or words k d)) → (k ≡ at → P k own) → (at < k → k - 1 < length words → P k (get_or words (k - 1) d)) → P k (get_or longer k d)
+  cases_at P k d lt one two three =
+      let long = length-insert words at own parted.within in
+      elim (cases_lt k at) [
+        | inl l ↦ subst (P k) (sym (below k d l)) (one l)
+        | inr ge ↦ elim (cases_lt at k) [
+          | inl l ↦ subst (P k) (sym (above k d l)) (three l (omega (arith, long, lt, l)))
+          | inr le ↦ let e : k ≡ at = omega (arith, ge, le) in subst (P k) (sym (here k d e)) (two e)
+        ]
+      ]
+
+  pub insert_formed : ArePlaceWords longer
+  insert_formed = record {
+    falls = λ i j d l lt.
+        let long = length-insert words at own parted.within in
+        cases_at (λ k w. w.start < (get_or longer i d).start) j d lt
+        (λ jl. subst (λ (w : PlaceWord). (get_or words j d).start < w.start) (sym (below i d (omega (arith, l, jl)))) (formed.falls i j d l (omega (arith, jl, parted.within))))
+        (λ je. subst (λ (w : PlaceWord). own.start < w.start) (sym (below i d (omega (arith, l, je)))) (before_at i d (omega (arith, l, je))))
+        (λ jg jw. cases_at (λ k w. (get_or words (j - 1) d).start < w.start) i d (omega (arith, l, lt))
+        (λ il. formed.falls i (j - 1) d (omega (arith, il, jg)) jw)
+        (λ ie. after_at (j - 1) d (omega (arith, jg)) jw)
+        (λ ig iw. formed.falls (i - 1) (j - 1) d (omega (arith, ig, l)) jw));
+    aligned = λ i d lt. cases_at (λ k w. w.start % 64 ≡ 0) i d lt
+        (λ il. formed.aligned i d (omega (arith, il, parted.within)))
+        (λ ie. omega arith)
+        (λ ig iw. formed.aligned (i - 1) d iw);
+  }
+
+  own_there : Contains longer own
+  own_there = let long = length-insert words at own parted.within in (at, omega (arith, long, parted.within), here at own refl)
+
+  own_bit : bit_at bits (place % 64) ≡ 1
+  own_bit = ap (λ n. bit_at n (place % 64)) bit ∙ bit_at-pow_same (place % 64)
+
+  pub insert_there : HasPlace longer place
+  insert_there = (own, own_there, record { starts = refl; one = own_bit })
+
+  pub insert_stay : (p : ℕ) → HasPlace words p → HasPlace longer p
+  insert_stay p h =
+      let w = h.0 in
+      let m = h.1 in
+      let is = h.2 in
+      let long = length-insert words at own parted.within in
+      elim (cases_lt m.0 at) [
+        | inl l ↦ (w, (m.0, omega (arith, long, m.1), below m.0 w l ∙ m.2), is)
+        | inr ge ↦
+            let back : m.0 + 1 - 1 ≡ m.0 = omega arith in
+            (w, (m.0 + 1, omega (arith, long, m.1), above (m.0 + 1) w (omega (arith, ge)) ∙ ap (λ k. get_or words k w) back ∙ m.2), is)
+      ]
+
+  pub insert_only : (p : ℕ) → HasPlace longer p → HasPlace words p ⊎ (place ≡ p)
+  insert_only p h =
+      let w = h.0 in
+      let m = h.1 in
+      let is = h.2 in
+      let long = length-insert words at own parted.within in
+      elim (cases_lt m.0 at) [
+        | inl l ↦ inl (w, (m.0, omega (arith, l, parted.within), sym (below m.0 w l) ∙ m.2), is)
+        | inr ge ↦ elim (cases_lt at m.0) [
+          | inl l ↦ inl (w, (m.0 - 1, omega (arith, long, m.1, l), sym (above m.0 w l) ∙ m.2), is)
+          | inr le ↦
+              let e : own ≡ w = sym (here m.0 w (omega (arith, ge, le))) ∙ m.2 in
+              let now = subst (λ (v : PlaceWord). IsIn v p) (sym e) is in
+              elim (cases_eq (p % 64) (place % 64)) [
+                | inl same ↦ let from = now.starts in inr (omega (arith, from, same))
+                | inr apart ↦ let zero = bit_at-pow_other (place % 64) (p % 64) apart in let one = ap (λ n. bit_at n (p % 64)) (sym bit) ∙ now.one in absurd (omega (arith, zero, one))
+              ]
+        ]
+      ]
+
+-- ---- the last place below an end
+
+module _ (words : List PlaceWord) (formed : ArePlaceWords words) (end : ℕ) where
+  pub searched_from : (index : ℕ) → IsPartedAt (λ w. nat_le end w.start) words index → IsSearched words end index
+  searched_from index parted = record {
+    none = λ k d l lt p is below. let from = leb-true end (get_or words k d).start (parted.before k d (omega arith) l) in let starts = is.starts in omega (arith, from, starts, below);
+    ahead = λ k d ge lt. leb-false end (get_or words k d).start (parted.after k d ge lt);
+  }
+
+  pub searched_more : (index : ℕ) (w : PlaceWord) → index < length words → w ≡ get_or words index w → IsSearched words end index → ((p : ℕ) → IsIn w p → p < end → ⊥) → IsSearched words end (index + 1)
+  searched_more index w lt at before none = record {
+    none = λ k d l within p is below. elim (cases_eq k index) [
+      | inl e ↦ none p (subst (λ (v : PlaceWord). IsIn v p) (ap (λ j. get_or words j d) e ∙ get_or_default words index d w lt ∙ sym at) is) below
+      | inr apart ↦ before.none k d (omega (arith, l, apart)) within p is below
+    ];
+    ahead = λ k d ge within. before.ahead k d (omega (arith, ge)) within;
+  }
+
+  pub last_found : (index place : ℕ) (w : PlaceWord) → index < length words → w ≡ get_or words index w → IsSearched words end index → IsLastIn w end place → IsLastBelow words end place
+  last_found index place w lt at before last = record {
+    has = (w, (index, lt, sym at), last.is);
+    below = last.below;
+    last = λ p h below. let v = h.0 in let m = h.1 in let is = h.2 in elim (cases_lt m.0 index) [
+      | inl l ↦ absurd (before.none m.0 v l m.1 p (subst (λ (u : PlaceWord). IsIn u p) (sym m.2) is) below)
+      | inr ge ↦ elim (cases_lt index m.0) [
+        | inl l ↦
+            let falls = formed.falls index m.0 w l m.1 in
+            let one = ap (λ (u : PlaceWord). u.start) (get_or_default words m.0 w v m.1 ∙ m.2) in
+            let two = ap (λ (u : PlaceWord). u.start) at in
+            let mine = formed.aligned index w lt in
+            let here = is.starts in
+            let there = last.is.starts in
+            let other = formed.aligned m.0 w m.1 in omega (arith, falls, one, two, mine, here, there, other)
+        | inr le ↦ last.last p (subst (λ (u : PlaceWord). IsIn u p) (sym m.2 ∙ ap (λ k. get_or words k v) (omega (arith, ge, le)) ∙ get_or_default words index v w lt ∙ sym at) is) below
+      ]
+    ];
+  }
+
+  pub none_found : (index : ℕ) → length words ≤ index → IsSearched words end index → (p : ℕ) → HasPlace words p → p < end → ⊥
+  none_found index all before p h below = let w = h.0 in let m = h.1 in let is = h.2 in before.none m.0 w (omega (arith, m.1, all)) m.1 p (subst (λ (u : PlaceWord). IsIn u p) (sym m.2) is) below

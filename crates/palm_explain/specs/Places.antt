@@ -1,0 +1,39 @@
+-- Sets of places of the log, by words of 64 places that stand together.
+use Rattle.std.specs.Prelude.{◌≡◌, ℕ, ◌-◌, ◌^◌, ◌%◌, ◌<◌, ◌≤◌, List, Contains, length, slice_index_or, bit_or}
+use Rattle.std.specs.Int.{bit_at}
+use Rattle.palm_explain.specs.declared.places.PlaceWord.{PlaceWord}
+
+-- the place is one of the 64 of the word, and has a one there
+pub record IsIn (word : PlaceWord) (place : ℕ) : Type 0 where
+  pub starts : word.start ≡ place - place % 64
+  pub one : bit_at word.bits (place % 64) ≡ 1
+
+-- the place is in one of the words
+abbrev pub HasPlace : List PlaceWord → ℕ → Type 0
+HasPlace words place = (word : PlaceWord) × Contains words word × IsIn word place
+
+-- the words fall, and each begins at a multiple of 64
+pub record ArePlaceWords (words : List PlaceWord) : Type 0 where
+  pub falls : (i j : ℕ) (d : PlaceWord) → i < j → j < length words → (slice_index_or words j d).start < (slice_index_or words i d).start
+  pub aligned : (i : ℕ) (d : PlaceWord) → i < length words → (slice_index_or words i d).start % 64 ≡ 0
+
+-- the word with a one at this bit
+abbrev pub with_bit : PlaceWord → ℕ → PlaceWord
+with_bit word bit = record word { bits = bit_or word.bits (2 ^ bit) }
+
+-- the last of the places of the word that stand below the end
+pub record IsLastIn (word : PlaceWord) (end place : ℕ) : Type 0 where
+  pub is : IsIn word place
+  pub below : place < end
+  pub last : (p : ℕ) → IsIn word p → p < end → p ≤ place
+
+-- the last of the places below the end
+pub record IsLastBelow (words : List PlaceWord) (end place : ℕ) : Type 0 where
+  pub has : HasPlace words place
+  pub below : place < end
+  pub last : (p : ℕ) → HasPlace words p → p < end → p ≤ place
+
+-- no word before the index has a place below the end, and each from there on begins below it
+pub record IsSearched (words : List PlaceWord) (end index : ℕ) : Type 0 where
+  pub none : (k : ℕ) (d : PlaceWord) → k < index → k < length words → (p : ℕ) → IsIn (slice_index_or words k d) p → p < end → ⊥
+  pub ahead : (k : ℕ) (d : PlaceWord) → index ≤ k → k < length words → (slice_index_or words k d).start < end

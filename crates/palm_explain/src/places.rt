@@ -1,0 +1,165 @@
+//! Sets of places of the log, for walks that look at few of many: a word for 64 places that stand together, where one of them is in
+//! the set.
+ghost use Rattle.std.specs.Prelude.{◌≡◌, ◌⊎◌, ℕ, ◌%◌, ◌<◌, ◌≤◌, true, [], length, nat_le, nat_lt, slice_index_or, slice_set, IfNone, IfSome, OnOk};
+ghost use Rattle.std.specs.Int.{bit_at};
+ghost use Rattle.palm_base.specs.Order.{IsPartedAt};
+ghost use Rattle.palm_base.specs.Tells.{Tells};
+ghost use Rattle.palm_explain.specs.Places.{ArePlaceWords, HasPlace, IsIn, IsLastBelow, IsLastIn, with_bit};
+ghost use Rattle.palm_explain.specs.declared.places.PlaceWord.{PlaceWord as PlaceWordTerm};
+
+use palm_base::NoMemory;
+use std::alloc::{AllocError, Global};
+use std::marker::Model;
+
+/// Which of 64 places that stand together are in a set.
+#[derive(Clone, Copy, Debug)]
+pub(crate) struct PlaceWord {
+    /// The first of the 64, a multiple of 64.
+    start: usize,
+    /// A one for each that is in the set.
+    bits: u64,
+}
+
+/// A set of places. Its words fall: a walk goes down the log, and so mostly adds the last one.
+#[derive(Debug, Drop)]
+pub(crate) struct Places {
+    words: Vec<PlaceWord>,
+    /// Where the word of the place that was added last stands, most likely.
+    near: usize,
+}
+
+impl Model for Places {
+    ghost use Rattle.std.specs.Prelude.{List};
+    ghost use Rattle.palm_explain.specs.Places.{ArePlaceWords};
+    ghost use Rattle.palm_explain.specs.declared.places.PlaceWord.{PlaceWord as PlaceWordTerm};
+
+    ghost Value = { List PlaceWordTerm };
+
+    ghost view = { λ s. s.words.items };
+
+    ghost invariant = { λ s. ArePlaceWords s.words.items };
+}
+
+impl Places {
+    /// No place.
+    pub(crate) fn new(alloc: Global) -> Places
+        ensures { result ≡ [] }
+    {
+        Places {
+            words: Vec::new(alloc),
+            near: 0,
+        }
+    }
+
+    /// Adds a place, unless it is there. Without memory nothing changes.
+    pub(crate) fn add(&mut self, place: usize) -> Result<(), NoMemory>
+        ensures there { OnOk result (HasPlace self.new place) }
+        ensures stay { (p : ℕ) → HasPlace self.old p → HasPlace self.new p }
+        ensures only { (p : ℕ) → HasPlace self.new p → HasPlace self.old p ⊎ (place ≡ p) }
+    {
+        let start = place - place % 64;
+        let at = index_near(&self.words, self.near, start);
+        self.near = at;
+        if starts_at(&self.words, at, start) {
+            set_bit(&mut self.words, at, place % 64);
+            return Ok(());
+        }
+        let bits = 1 << (place % 64);
+        self.words.insert(at, PlaceWord { start, bits })?;
+        Ok(())
+    }
+
+    /// The last of the places below the end.
+    pub(crate) fn last_below(&self, end: usize) -> Option<usize>
+        ensures some { IfSome result (λ place. IsLastBelow self.now end place) }
+        ensures none { IfNone result ((p : ℕ) → HasPlace self.now p → p < end → ⊥) }
+    {
+        let words = self.words.as_slice();
+        let mut index = index_below(words, end);
+        while index < words.len() {
+            if let Some(place) = last_in(&words[index], end) {
+                return Some(place);
+            }
+            index += 1;
+        }
+        None
+    }
+}
+
+/// Whether the word at an index begins at this place.
+#[inline(always)]
+fn starts_at(words: &[PlaceWord], index: usize, start: usize) -> bool
+    ensures { Tells result (index < length words.now × ((d : PlaceWordTerm) → (slice_index_or words.now index d).start ≡ start)) }
+{
+    match words.get(index) {
+        Some(word) => word.start == start,
+        None => false,
+    }
+}
+
+/// How many of the words begin behind this place, found by halves.
+#[inline(never)]
+fn index_of(words: &[PlaceWord], start: usize) -> usize
+    requires { ArePlaceWords words.now }
+    ensures { IsPartedAt (λ w. nat_lt start w.start) words.now result }
+{
+    words.partition_point(|word| start < word.start)
+}
+
+/// How many of the words begin behind this place: mostly the word at `near` begins there.
+#[inline(always)]
+fn index_near(words: &[PlaceWord], near: usize, start: usize) -> usize
+    requires { ArePlaceWords words.now }
+    ensures { IsPartedAt (λ w. nat_lt start w.start) words.now result }
+{
+    if starts_at(words, near, start) {
+        near
+    } else {
+        index_of(words, start)
+    }
+}
+
+/// How many of the words begin at this place or behind it.
+fn index_below(words: &[PlaceWord], end: usize) -> usize
+    requires { ArePlaceWords words.now }
+    ensures { IsPartedAt (λ w. nat_le end w.start) words.now result }
+{
+    words.partition_point(|word| end <= word.start)
+}
+
+/// Makes a bit of the word at an index a one.
+#[inline(always)]
+fn set_bit(words: &mut Vec<PlaceWord>, index: usize, bit: usize)
+    requires index { index < length words.old.items }
+    requires bit { bit < 64 }
+    ensures { (d : PlaceWordTerm) → words.new.items ≡ slice_set words.old.items index (with_bit (slice_index_or words.old.items index d) bit) }
+{
+    words[index].bits |= 1 << bit;
+}
+
+/// The first so many bits of a word.
+#[inline(always)]
+fn low_bits(bits: u64, count: usize) -> u64
+    ensures below { (k : ℕ) → k < count → bit_at result k ≡ bit_at bits k }
+    ensures above { (k : ℕ) → count ≤ k → bit_at result k ≡ 0 }
+{
+    if count < 64 {
+        bits & ((1 << count) - 1)
+    } else {
+        bits
+    }
+}
+
+/// The last place of the word below the end.
+fn last_in(word: &PlaceWord, end: usize) -> Option<usize>
+    requires start { word.now.start < end }
+    requires aligned { word.now.start % 64 ≡ 0 }
+    ensures some { IfSome result (λ place. IsLastIn word.now end place) }
+    ensures none { IfNone result ((p : ℕ) → IsIn word.now p → p < end → ⊥) }
+{
+    let low = low_bits(word.bits, end - word.start);
+    if low == 0 {
+        return None;
+    }
+    Some(word.start + low.ilog2() as usize)
+}
