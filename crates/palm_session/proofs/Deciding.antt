@@ -22,11 +22,10 @@ use Rattle.palm_session.specs.State.{SessionState}
 use Rattle.palm_session.specs.declared.going.Going.{Going}
 use Rattle.palm_session.specs.declared.going.Going.TheVariants.{More, Quit}
 use Rattle.palm_session.specs.declared.reply.Reply.{Reply}
-use Rattle.palm_session.specs.declared.request.Procedure.TheVariants.{Proof}
 use Rattle.palm_session.specs.declared.request.Request.{Request}
 use Rattle.palm_session.specs.declared.request.Request.TheVariants.{Solve, Quit as QuitAsked}
 use Rattle.palm_session.specs.declared.taken.Taken.{Taken}
-use Rattle.palm_session.specs.declared.taken.Taken.TheVariants.{Said, ToProve}
+use Rattle.palm_session.specs.declared.taken.Taken.TheVariants.{Said, ToSearch}
 use Rattle.palm_session.specs.Answers.{WaitsFor}
 use Rattle.palm_session.proofs.Admitting.{free_of_refusals}
 use Rattle.palm_session.proofs.InModes.{read_where}
@@ -111,28 +110,28 @@ takes_asks s t bytes line request asked r a (asks_after m goes changes asks) = s
 module _ (s t : SessionState) (bytes : List ℕ) (line : Line) (request : Request) (asked : ℕ) (read : IsRead s.mode bytes line) (admitted : IsAdmitted (heard s line) line request) where
   pub line_becomes : (taken : Taken) → Becomes (heard s line) request t asked taken → LineBecomes s bytes t taken
   line_becomes (Said reply going) takes = takes_answers s t bytes line request asked (reply, going) read admitted takes
-  line_becomes (ToProve budget) is = (
+  line_becomes (ToSearch by) is = (
     line,
     read,
     subst (λ (q : Request). IsAdmitted (heard s line) line q) is.is admitted,
-    awake_for (heard s line) (Solve (Proof budget)) tt (subst (λ (q : Request). WaitsFor (heard s line) q → ⊥) is.is is.goes),
+    awake_for (heard s line) (Solve by) tt (subst (λ (q : Request). WaitsFor (heard s line) q → ⊥) is.is is.goes),
     is.same,
   )
 
   pub becomes_asks : (taken : Taken) → Becomes (heard s line) request t asked taken → TakenAsks s bytes t asked taken
   becomes_asks (Said reply going) takes = takes_asks s t bytes line request asked read admitted takes.asks
-  becomes_asks (ToProve budget) is = is.quiet
+  becomes_asks (ToSearch by) is = is.quiet
 
   pub becomes_decides : (taken : Taken) → Becomes (heard s line) request t asked taken → TakenDecides bytes taken
   becomes_decides (Said reply going) takes = decides_taken s.mode (heard s line) going bytes line request read admitted.requests takes.goes
-  becomes_decides (ToProve budget) is = decides_taken s.mode (heard s line) More bytes line request read admitted.requests (λ e. not_the_end (sym is.is ∙ e))
+  becomes_decides (ToSearch by) is = decides_taken s.mode (heard s line) More bytes line request read admitted.requests (λ e. not_the_end (sym is.is ∙ e))
     where
-      not_the_end : Solve (Proof budget) ≡ QuitAsked → ⊥
+      not_the_end : Solve by ≡ QuitAsked → ⊥
       not_the_end e = subst EndsAll (sym e) tt
 
   pub becomes_fits : (taken : Taken) → Becomes (heard s line) request t asked taken → TakenFits t taken
   becomes_fits (Said reply going) takes = takes.fits
-  becomes_fits (ToProve budget) is = tt
+  becomes_fits (ToSearch by) is = tt
 
 -- what follows from each good answer follows where there is one
 pub on_ok : {T E : Type 0} (r : Result T E) (P : T → Type 0) (A : Type 0) → ((x : T) → P x → A) → IfOk r P → OnOk r A

@@ -1,111 +1,129 @@
--- What the objects were asked and told, from a call to the line that led to it.
-use Rattle.std.proofs.Common.{◌≡◌, ℕ, Bool, List, Option, Result, Ok, Err, IfOk, OnOk, inl, inr, refl, sym, ap, subst}
+-- What the objects were asked and told, and what is replied of it, from a call to the line that led to it.
+use Rattle.std.proofs.Common.{◌≡◌, ℕ, Bool, List, Option, is_some, Result, Ok, Err, IfOk, inl, inr, refl, sym, ap, ◌∙◌, subst}
 use Rattle.palm_base.specs.First.{IsFirst}
 use Rattle.palm_base.proofs.cited.FirstCauses.{first_not_none}
 use Rattle.palm_book.specs.Book.{Contents}
 use Rattle.palm_engine.specs.Engine.{View}
+use Rattle.palm_lang.specs.Reply.{fixed_text, refusal_text}
+use Rattle.palm_lang.specs.declared.reply.Fixed.TheVariants.{Paused}
 use Rattle.palm_lang.specs.declared.reply.Refusal.{Refusal}
 use Rattle.palm_read.specs.Reading.{IsRead, IsRefusedBy}
 use Rattle.palm_read.specs.declared.line.Line.{Line}
 use Rattle.palm_read.specs.declared.parse.LineError.{LineError}
 use Rattle.palm_read.proofs.cited.Parsing.{one_reading}
-use Rattle.palm_best.specs.Following.{MinimizesBy}
-use Rattle.palm_best.specs.declared.best.Best.{Best}
-use Rattle.palm_repair.specs.Following.{HasRepairedBy}
-use Rattle.palm_repair.specs.declared.answer.RepairAnswer.{RepairAnswer}
+use Rattle.palm_best.specs.Ends.{Minimizes}
+use Rattle.palm_repair.specs.Answers.{end_of}
+use Rattle.palm_repair.specs.Repair.{Repairs}
 use Rattle.palm_search.specs.Calls.{SearchView}
-use Rattle.palm_search.specs.Following.{SearchesBy}
+use Rattle.palm_search.specs.Search.{Searches as SearchesWhole}
 use Rattle.palm_search.specs.declared.ending.SearchEnd.{SearchEnd}
+use Rattle.proof_run.specs.Text.{Proves}
 use Rattle.palm_read.specs.declared.mode.Mode.{Mode}
 use Rattle.palm_prefer.specs.declared.weights.Weight.{Weight}
 use Rattle.palm_session.specs.Answers.{WaitsFor}
-use Rattle.palm_session.specs.Effects.{Next, next}
-use Rattle.palm_session.specs.Led.{Guiding, Ordering, SettlesBy, FiltersBy, SearchesOn, LeadsOn, next_left, objects_after, TakesLead, BecomesLead, HasRequest, LineLeads, LineBecomesLead}
+use Rattle.palm_session.specs.Effects.{Effect, Nothing, Settled, Searched as SearchedSo, Telling, Next, Rests, Filters, Searches, SearchesByDbt, SearchesByRepair, SearchesByProof, SearchesByLeast, SearchesIn, Follows}
+use Rattle.palm_session.specs.Led.{Guiding, Ordering, RunsBy, SearchesOn, LeadsOn, TakesLead, BecomesLead, HasRequest, LineLeads, LineBecomesLead}
 use Rattle.palm_session.specs.Modes.{heard, misheard}
 use Rattle.palm_session.specs.Objects.{ObjectsView, HeldObjects, LendsChosen, chosen_object}
 use Rattle.palm_session.specs.Refusals.{Meets, in_order}
 use Rattle.palm_session.specs.ReplyText.{IsRefusal}
 use Rattle.palm_session.specs.Requests.{IsAdmitted}
-use Rattle.palm_session.specs.Serving.{DeskView, desk_of, IsLeft, Obeys}
+use Rattle.palm_session.specs.Serving.{DeskView, desk_of, HasRun}
 use Rattle.palm_session.specs.State.{SessionState}
-use Rattle.palm_session.specs.declared.remainder.Remainder.{Remainder}
-use Rattle.palm_session.specs.declared.remainder.Remainder.TheVariants.{Say, Filter, Run, Search, End}
+use Rattle.palm_session.specs.Ways.{HasSearched, RunsTo}
+use Rattle.palm_session.specs.declared.ways.Searched.{Searched}
 use Rattle.palm_session.specs.declared.taken.Taken.{Taken}
-use Rattle.palm_session.specs.declared.taken.Taken.TheVariants.{Said, ToProve}
+use Rattle.palm_session.specs.declared.taken.Taken.TheVariants.{Said, ToSearch}
+use Rattle.palm_session.specs.declared.request.Procedure.{Procedure}
 use Rattle.palm_session.specs.declared.request.Procedure.TheVariants.{Dbt, Repair, Proof, Least}
 use Rattle.palm_session.specs.declared.request.Request.{Request}
+use Rattle.palm_session.proofs.Following.{lent_state}
 use Rattle.palm_session.proofs.ReadOnce.{read_or_refused}
 
--- ---- the calls of a desk
+-- ---- the call of a desk
 
-pub settle_led : {G O : Type 0} (ordering : Ordering O) (mode : Mode) (book : Contents) (weights : List Weight) (engine after : View) (accepted : ℕ) (paused : Bool) (guides : ObjectsView G) (orders more : ObjectsView O) (search : SearchView) (d : DeskView G O) (limit : Option ℕ)
-    → desk_of mode book weights engine accepted paused guides orders search ≡ d → LendsChosen orders more
-    → SettlesBy ordering limit (chosen_object orders) (chosen_object more) engine.state after.state
-    → FiltersBy ordering limit d.state.engine d.objects (desk_of mode book weights after accepted paused guides more search).state.engine (desk_of mode book weights after accepted paused guides more search).objects
-settle_led {G = G} {O = O} ordering mode book weights engine after accepted paused guides orders more search d limit is lends by =
-    let e = desk_of mode book weights after accepted paused guides more search in
-    subst (λ (z : DeskView G O). FiltersBy ordering limit z.state.engine z.objects e.state.engine e.objects) is (record { settles = by; orders = lends; guides = refl })
-
-pub dbt_led : {G O E : Type 0} (guiding : Guiding G) (ordering : Ordering O) (mode : Mode) (book : Contents) (weights : List Weight) (engine after : View) (accepted : ℕ) (paused : Bool) (guides others : ObjectsView G) (orders more : ObjectsView O) (search done : SearchView) (d : DeskView G O)
-    (budget : ℕ) (r : Result SearchEnd E) → desk_of mode book weights engine accepted paused guides orders search ≡ d → LendsChosen guides others → LendsChosen orders more
-    → IfOk r (λ answer. SearchesBy guiding ordering (chosen_object guides) (chosen_object others) (chosen_object orders) (chosen_object more) budget engine.state done.journal answer after.state)
-    → OnOk r (SearchesOn guiding ordering (Dbt budget) d.state d.objects (desk_of mode book weights after accepted paused others more done).state (desk_of mode book weights after accepted paused others more done).objects)
-dbt_led {G = G} {O = O} guiding ordering mode book weights engine after accepted paused guides others orders more search done d budget (Ok answer) is one two by =
+-- a search by lent objects, among what a desk holds
+pub searched_led : {G O E : Type 0} (guiding : Guiding G) (ordering : Ordering O) (mode : Mode) (book : Contents) (weights : List Weight) (engine after : View) (accepted : ℕ) (paused : Bool) (guides others : ObjectsView G) (orders more : ObjectsView O) (search done : SearchView) (d : DeskView G O)
+    → desk_of mode book weights engine accepted paused guides orders search ≡ d → LendsChosen guides others → LendsChosen orders more → (by : Procedure) (was now : Option (List ℕ)) (r : Result Searched E)
+    → IfOk r (λ answer. RunsTo guiding ordering (chosen_object guides) (chosen_object others) (chosen_object orders) (chosen_object more) by book engine.state done.journal answer after.state was now)
+    → IfOk r (λ answer. HasSearched guiding ordering d.state by was now answer d.objects (desk_of mode book weights after accepted paused others more done).state (desk_of mode book weights after accepted paused others more done).objects)
+searched_led {G = G} {O = O} guiding ordering mode book weights engine after accepted paused guides others orders more search done d is one two by was now (Ok answer) to =
     let e = desk_of mode book weights after accepted paused others more done in
-    subst (λ (z : DeskView G O). SearchesOn guiding ordering (Dbt budget) z.state z.objects e.state e.objects) is (record { runs = (answer, by); guides = one; orders = two })
-dbt_led guiding ordering mode book weights engine after accepted paused guides others orders more search done d budget (Err x) is one two by = tt
+    subst (λ (z : DeskView G O). HasSearched guiding ordering z.state by was now answer z.objects e.state e.objects) is (record {
+      end = to.end;
+      telling = to.telling;
+      run = record {
+        runs = to.runs;
+        chosen = record { guide = refl; order = refl };
+        state = lent_state mode book weights engine after accepted paused guides others orders more search done one two;
+        guides = one;
+        orders = two;
+      };
+      tells = to.tells;
+      written = to.written;
+    })
+searched_led guiding ordering mode book weights engine after accepted paused guides others orders more search done d is one two by was now (Err x) to = tt
 
-pub repair_led : {G O E : Type 0} (guiding : Guiding G) (ordering : Ordering O) (mode : Mode) (book : Contents) (weights : List Weight) (engine after : View) (accepted : ℕ) (paused : Bool) (guides others : ObjectsView G) (orders more : ObjectsView O) (search done : SearchView) (d : DeskView G O)
-    (tabu budget : ℕ) (r : Result RepairAnswer E) → desk_of mode book weights engine accepted paused guides orders search ≡ d → LendsChosen guides others → LendsChosen orders more
-    → IfOk r (HasRepairedBy guiding ordering (chosen_object guides) (chosen_object others) (chosen_object orders) (chosen_object more) tabu budget engine.state done.journal after.state)
-    → OnOk r (SearchesOn guiding ordering (Repair tabu budget) d.state d.objects (desk_of mode book weights after accepted paused others more done).state (desk_of mode book weights after accepted paused others more done).objects)
-repair_led {G = G} {O = O} guiding ordering mode book weights engine after accepted paused guides others orders more search done d tabu budget (Ok answer) is one two by =
-    let e = desk_of mode book weights after accepted paused others more done in
-    subst (λ (z : DeskView G O). SearchesOn guiding ordering (Repair tabu budget) z.state z.objects e.state e.objects) is (record { runs = (answer, by); guides = one; orders = two })
-repair_led guiding ordering mode book weights engine after accepted paused guides others orders more search done d tabu budget (Err x) is one two by = tt
+-- ---- what led the objects is what happened
 
-pub proof_led : {G O E : Type 0} (guiding : Guiding G) (ordering : Ordering O) (mode : Mode) (book : Contents) (weights : List Weight) (engine after : View) (accepted : ℕ) (paused : Bool) (guides others : ObjectsView G) (orders more : ObjectsView O) (search done : SearchView) (d : DeskView G O)
-    (budget : ℕ) (r : Result Unit E) → desk_of mode book weights engine accepted paused guides orders search ≡ d → LendsChosen guides others → LendsChosen orders more
-    → OnOk r ((end : SearchEnd) × SearchesBy guiding ordering (chosen_object guides) (chosen_object others) (chosen_object orders) (chosen_object more) budget engine.state done.journal end after.state)
-    → OnOk r (SearchesOn guiding ordering (Proof budget) d.state d.objects (desk_of mode book weights after accepted paused others more done).state (desk_of mode book weights after accepted paused others more done).objects)
-proof_led {G = G} {O = O} guiding ordering mode book weights engine after accepted paused guides others orders more search done d budget (Ok answer) is one two by =
-    let e = desk_of mode book weights after accepted paused others more done in
-    subst (λ (z : DeskView G O). SearchesOn guiding ordering (Proof budget) z.state z.objects e.state e.objects) is (record { runs = by; guides = one; orders = two })
-proof_led guiding ordering mode book weights engine after accepted paused guides others orders more search done d budget (Err x) is one two by = tt
+module _ {G O : Type 0} (guiding : Guiding G) (ordering : Ordering O) (s t : SessionState) (before after : HeldObjects G O) (guided : is_some (chosen_object before.guides) ≡ is_some s.guide) (ordered : is_some (chosen_object before.orders) ≡ is_some s.order) where
+  -- objects are chosen where they are there
+  as_chosen : (P : Bool → Bool → Type 0) → P (is_some (chosen_object before.guides)) (is_some (chosen_object before.orders)) → P (is_some s.guide) (is_some s.order)
+  as_chosen P p = subst (λ (b : Bool). P b (is_some s.order)) guided (subst (λ (b : Bool). P (is_some (chosen_object before.guides)) b) ordered p)
 
-pub least_led : {G O E : Type 0} (guiding : Guiding G) (ordering : Ordering O) (mode : Mode) (book : Contents) (weights : List Weight) (engine after : View) (accepted : ℕ) (paused : Bool) (guides others : ObjectsView G) (orders more : ObjectsView O) (search done : SearchView) (d : DeskView G O)
-    (target budget : ℕ) (r : Result Best E) → desk_of mode book weights engine accepted paused guides orders search ≡ d → LendsChosen guides others → LendsChosen orders more
-    → IfOk r (λ best. MinimizesBy guiding ordering (chosen_object guides) (chosen_object others) (chosen_object orders) (chosen_object more) target budget engine.state done.journal best after.state)
-    → OnOk r (SearchesOn guiding ordering (Least target budget) d.state d.objects (desk_of mode book weights after accepted paused others more done).state (desk_of mode book weights after accepted paused others more done).objects)
-least_led {G = G} {O = O} guiding ordering mode book weights engine after accepted paused guides others orders more search done d target budget (Ok best) is one two by =
-    let e = desk_of mode book weights after accepted paused others more done in
-    subst (λ (z : DeskView G O). SearchesOn guiding ordering (Least target budget) z.state z.objects e.state e.objects) is (record { runs = (best, by); guides = one; orders = two })
-least_led guiding ordering mode book weights engine after accepted paused guides others orders more search done d target budget (Err x) is one two by = tt
+  run_in : (by : Procedure) (end : SearchEnd) (telling : Telling) → RunsBy guiding ordering (chosen_object before.guides) (chosen_object after.guides) (chosen_object before.orders) (chosen_object after.orders) by s.book s.engine t.journal end telling t.engine
+      → SearchesIn s by t.journal end telling t.engine
+  run_in (Dbt budget) end telling run =
+      let searches : SearchesByDbt s budget t.journal end telling t.engine = record {
+        searches = as_chosen (λ g o. SearchesWhole g o budget s.engine t.journal end t.engine) run.0.searches;
+        told = run.1;
+      } in searches
+  run_in (Repair tabu budget) end telling run =
+      let dropped : ℕ = run.1.repaired.dropped in
+      let ended = as_chosen (λ g o. Repairs g o tabu budget s.engine t.journal (end_of run.0) dropped t.engine) run.1.repaired.repairs in
+      let searches : SearchesByRepair s tabu budget t.journal end telling t.engine = record {
+        count = dropped;
+        repairs = subst (λ (x : SearchEnd). Repairs (is_some s.guide) (is_some s.order) tabu budget s.engine t.journal x dropped t.engine) (sym run.2) ended;
+        told = run.3;
+      } in searches
+  run_in (Proof budget) end telling run =
+      let proves : Proves (is_some (chosen_object before.guides)) (is_some (chosen_object before.orders)) budget s.book s.engine t.journal end t.engine run.0 = record { searches = run.1.by.searches; writes = run.1.writes } in
+      let searches : SearchesByProof s budget t.journal end telling t.engine = record {
+        text = run.0;
+        proves = as_chosen (λ g o. Proves g o budget s.book s.engine t.journal end t.engine run.0) proves;
+        told = run.2;
+      } in searches
+  run_in (Least target budget) end telling run =
+      let searches : SearchesByLeast s target budget t.journal end telling t.engine = record {
+        best = run.0;
+        minimizes = as_chosen (λ g o. Minimizes g o target budget s.engine t.journal run.0 t.engine) run.1.minimizes;
+        ended = run.2;
+        told = run.3;
+      } in searches
 
--- ---- what is left of a request
+module _ {G O : Type 0} (guiding : Guiding G) (ordering : Ordering O) (s : SessionState) (before : HeldObjects G O) (t : SessionState) (after : HeldObjects G O) where
+  pub has_run : (by : Procedure) (end : SearchEnd) (telling : Telling) → SearchesOn guiding ordering s by end telling before t after → HasRun s by end telling t
+  has_run by end telling on =
+      let guided : is_some (chosen_object before.guides) ≡ is_some s.guide = on.guides.there ∙ ap (λ (o : Option ℕ). is_some o) (sym on.chosen.guide) in
+      let ordered : is_some (chosen_object before.orders) ≡ is_some s.order = on.orders.there ∙ ap (λ (o : Option ℕ). is_some o) (sym on.chosen.order) in
+      record { turns = t.journal; engine = t.engine; searches = run_in guiding ordering s t before after guided ordered by end telling on.runs; after = on.state }
 
-next_of_left : (m : SessionState) (request : Request) (remainder : Remainder) → IsLeft m request remainder → next m request ≡ next_left m remainder
-next_of_left m request (Say own) left = left.0
-next_of_left m request Filter left = left.0
-next_of_left m request (Run count) left = ap (λ (r : Request). next m r) left
-next_of_left m request (Search by) left = ap (λ (r : Request). next m r) left
-next_of_left m request End left = ap (λ (r : Request). next m r) left
+  pub leads_follow : (what : Next) (effect : Effect) → LeadsOn guiding ordering s what effect before t after → Follows s what effect t
+  leads_follow Rests Nothing led = led.0
+  leads_follow Rests (Settled count) led = absurd led
+  leads_follow Rests (SearchedSo end telling) led = absurd led
+  leads_follow (Filters limit) Nothing led = absurd led
+  leads_follow (Filters limit) (Settled count) led = (t.engine, led.settles, led.state)
+  leads_follow (Filters limit) (SearchedSo end telling) led = absurd led
+  leads_follow (Searches by) Nothing led = absurd led
+  leads_follow (Searches by) (Settled count) led = absurd led
+  leads_follow (Searches by) (SearchedSo end telling) led = let run = has_run by end telling led in (run.turns, run.engine, run.searches, run.after)
 
-module _ {G O : Type 0} (guiding : Guiding G) (ordering : Ordering O) (s : SessionState) (request : Request) (before : HeldObjects G O) where
-  pub waits_led : WaitsFor s request → TakesLead guiding ordering s request before s before
-  waits_led waits = inl (waits, refl)
+-- ---- requests
 
-  pub takes_led : (m : SessionState) (remainder : Remainder) (between : HeldObjects G O) (t : SessionState) (after : HeldObjects G O) → (WaitsFor s request → ⊥) → Obeys s request m remainder → between ≡ objects_after request before
-      → LeadsOn guiding ordering (next_left m remainder) m between t after → TakesLead guiding ordering s request before t after
-  takes_led m remainder between t after goes obeys same leads =
-      let here : LeadsOn guiding ordering (next m request) m between t after =
-      subst (λ (n : Next). LeadsOn guiding ordering n m between t after) (sym (next_of_left m request remainder obeys.left)) leads in
-      inr (record {
-        goes = goes;
-        changed = m;
-        changes = obeys.changes;
-        leads = subst (λ (o : HeldObjects G O). LeadsOn guiding ordering (next m request) m o t after) same here;
-      })
+pub waits_led : {G O : Type 0} (guiding : Guiding G) (ordering : Ordering O) (s : SessionState) (request : Request) (objects : HeldObjects G O) → WaitsFor s request
+    → TakesLead guiding ordering s request objects (fixed_text Paused) s objects
+waits_led guiding ordering s request objects waits = inl (record { waits = waits; told = refl; state = refl; objects = refl })
 
 -- ---- lines
 
@@ -124,14 +142,10 @@ module _ {G O : Type 0} (guiding : Guiding G) (ordering : Ordering O) (s : Sessi
   misread_led error (Ok taken) refused is = subst (λ (x : Taken). LineBecomesLead guiding ordering s bytes objects (misheard s) objects x) (sym is.is) (inl (misread_none s bytes error taken refused is, refl))
   misread_led error (Err e) refused is = tt
 
-  pub refused_led : (line : Line) (refusal : Refusal) → IsRead s.mode bytes line → IsFirst (Meets (heard s line) line) in_order refusal → LineLeads guiding ordering s bytes objects (heard s line) objects
+  pub refused_led : (line : Line) (refusal : Refusal) → IsRead s.mode bytes line → IsFirst (Meets (heard s line) line) in_order refusal → LineLeads guiding ordering s bytes objects (refusal_text refusal) (heard s line) objects
   refused_led line refusal read first = inl (refused_none s bytes line refusal read first, refl)
-
-  pub line_led : (line : Line) (request : Request) (t : SessionState) (after : HeldObjects G O) → IsRead s.mode bytes line → IsAdmitted (heard s line) line request → TakesLead guiding ordering (heard s line) request objects t after
-      → LineLeads guiding ordering s bytes objects t after
-  line_led line request t after read admitted takes = inr (request, record { line = line; read = read; admitted = admitted }, takes)
 
   pub becomes_led : (line : Line) (request : Request) (t : SessionState) (after : HeldObjects G O) → IsRead s.mode bytes line → IsAdmitted (heard s line) line request → (taken : Taken)
       → BecomesLead guiding ordering (heard s line) request objects t after taken → LineBecomesLead guiding ordering s bytes objects t after taken
-  becomes_led line request t after read admitted (Said reply going) takes = line_led line request t after read admitted takes
-  becomes_led line request t after read admitted (ToProve budget) same = same
+  becomes_led line request t after read admitted (Said reply going) takes = inr (request, record { line = line; read = read; admitted = admitted }, takes)
+  becomes_led line request t after read admitted (ToSearch by) same = same

@@ -8,7 +8,7 @@ use Rattle.palm_lang.specs.declared.stop.WriteStop.{WriteStop as Stop}
 use Rattle.palm_read.specs.Lines.{HasNoFeed, IsNextFeed, without_return}
 use Rattle.palm_session.specs.Answers.{Answers}
 use Rattle.palm_session.specs.Feeding.{AnswersLine}
-use Rattle.palm_session.specs.Led.{Guiding, Ordering, LineLeads, RunLeads, TextLeads, LinesLead, LinesLeadOut, FeedsLead, LastLeads}
+use Rattle.palm_session.specs.Led.{Guiding, Ordering, AnswersLead, LineLeads, RunLeads, TextLeads, LinesLead, LinesLeadOut, FeedsLead, LastLeads}
 use Rattle.palm_session.specs.Objects.{HeldObjects}
 use Rattle.palm_session.specs.Replies.{GoesOn}
 use Rattle.palm_session.specs.State.{SessionState}
@@ -17,17 +17,17 @@ use Rattle.palm_session.specs.declared.going.Going.TheVariants.{More, Quit}
 use Rattle.palm_session.specs.declared.limits.TheConstants.{MOST_KEPT_BYTES}
 use Rattle.palm_session.proofs.cited.FeedLemmas.{line_whole, map_more}
 use Rattle.palm_session.proofs.cited.Keeping.{completes, kept_twice, line_long, no_feed_both, unbroken_first}
-use Rattle.palm_session.proofs.cited.LedLemmas.{feeds_then, line_leads_long, texts_led}
+use Rattle.palm_session.proofs.cited.LedLemmas.{answers_lead_long, feeds_then, texts_led}
 
 module _ {G O : Type 0} (guiding : Guiding G) (ordering : Ordering O) where
   -- ---- one line after another
 
-  one_led : (s t : SessionState) (line reply : List ℕ) (before after : HeldObjects G O) → Answers s line reply t → LineLeads guiding ordering s line before t after
+  one_led : (s t : SessionState) (line reply : List ℕ) (before after : HeldObjects G O) → Answers s line reply t → LineLeads guiding ordering s line before reply t after
       → RunLeads guiding ordering s (line ∷ []) reply before t after
   one_led s t line reply before after one led = (reply, [], t, after, one, led, sym (append-nil reply), (refl, refl, refl))
 
   next_led : (m t : SessionState) (text reply : List ℕ) (from end : ℕ) (before after : HeldObjects G O) → IsNextFeed text from end → Answers m (without_return (slice_range text from end)) reply t
-      → LineLeads guiding ordering m (without_return (slice_range text from end)) before t after
+      → LineLeads guiding ordering m (without_return (slice_range text from end)) before reply t after
       → TextLeads guiding ordering m (drop from text ++ []) (slice_range text from end ∷ []) (drop (end + 1) text) reply before t after
   next_led m t text reply from end before after f one led = record {
     whole = append-nil (drop from text) ∙ f.line ∙ line_whole (slice_range text from end) (drop (end + 1) text);
@@ -38,7 +38,7 @@ module _ {G O : Type 0} (guiding : Guiding G) (ordering : Ordering O) where
   -- one more line of the text
   text_more : (s m t : SessionState) (text : List ℕ) (lines : List (List ℕ)) (replies reply : List ℕ) (from end : ℕ) (before between after : HeldObjects G O)
       → TextLeads guiding ordering s text lines (drop from text) replies before m between → IsNextFeed text from end
-      → Answers m (without_return (slice_range text from end)) reply t → LineLeads guiding ordering m (without_return (slice_range text from end)) between t after
+      → Answers m (without_return (slice_range text from end)) reply t → LineLeads guiding ordering m (without_return (slice_range text from end)) between reply t after
       → TextLeads guiding ordering s text (lines ++ slice_range text from end ∷ []) (drop (end + 1) text) (replies ++ reply) before t after
   text_more s m t text lines replies reply from end before between after so f one led =
       subst (λ (z : List ℕ). TextLeads guiding ordering s z (lines ++ slice_range text from end ∷ []) (drop (end + 1) text) (replies ++ reply) before t after) (append-nil text)
@@ -58,30 +58,30 @@ module _ {G O : Type 0} (guiding : Guiding G) (ordering : Ordering O) where
 
   pub lines_more : (s m t : SessionState) (text : List ℕ) (from end : ℕ) (before between after : HeldObjects G O) (was mid now : Option (List ℕ)) (asked : ℕ)
       → LinesLead guiding ordering s text was mid (drop from text) before m between → IsNextFeed text from end
-      → AnswersLine m (without_return (slice_range text from end)) mid now More t asked → LineLeads guiding ordering m (without_return (slice_range text from end)) between t after
+      → AnswersLine m (without_return (slice_range text from end)) mid now More t asked → AnswersLead guiding ordering m (without_return (slice_range text from end)) mid now between t after
       → LinesLead guiding ordering s text was now (drop (end + 1) text) before t after
   lines_more s m t text from end before between after was mid now asked so f one led = record {
     lines = so.lines ++ slice_range text from end ∷ [];
-    replies = so.replies ++ one.reply;
-    led = text_more s m t text so.lines so.replies one.reply from end before between after so.led f one.answers led;
+    replies = so.replies ++ led.reply;
+    led = text_more s m t text so.lines so.replies led.reply from end before between after so.led f led.answers led.leads;
     goes_on = subst (λ (ls : List (List ℕ)). All GoesOn ls) (sym (map_more so.lines (slice_range text from end)))
         (All-push GoesOn (map without_return so.lines) (without_return (slice_range text from end)) so.goes_on one.decides);
-    written = appended_both was mid now so.replies one.reply so.written one.written;
+    written = appended_both was mid now so.replies led.reply so.written led.written;
   }
 
   pub lines_end : (s m t : SessionState) (text : List ℕ) (from end : ℕ) (before between after : HeldObjects G O) (was mid now : Option (List ℕ)) (asked : ℕ)
       → LinesLead guiding ordering s text was mid (drop from text) before m between → IsNextFeed text from end
-      → AnswersLine m (without_return (slice_range text from end)) mid now Quit t asked → LineLeads guiding ordering m (without_return (slice_range text from end)) between t after
+      → AnswersLine m (without_return (slice_range text from end)) mid now Quit t asked → AnswersLead guiding ordering m (without_return (slice_range text from end)) mid now between t after
       → LinesLeadOut guiding ordering s text was now before t after
   lines_end s m t text from end before between after was mid now asked so f one led = record {
     lines = so.lines;
     last = slice_range text from end;
     rest = drop (end + 1) text;
-    replies = so.replies ++ one.reply;
-    led = text_more s m t text so.lines so.replies one.reply from end before between after so.led f one.answers led;
+    replies = so.replies ++ led.reply;
+    led = text_more s m t text so.lines so.replies led.reply from end before between after so.led f led.answers led.leads;
     goes_on = so.goes_on;
     ends = one.decides;
-    written = appended_both was mid now so.replies one.reply so.written one.written;
+    written = appended_both was mid now so.replies led.reply so.written led.written;
   }
 
   -- a piece that completes the line whose first bytes are kept
@@ -92,49 +92,51 @@ module _ {G O : Type 0} (guiding : Guiding G) (ordering : Ordering O) where
     abbrev others : List ℕ
     others = drop (end + 1) piece
 
-    first_long : (m : SessionState) (before between : HeldObjects G O) → LineLeads guiding ordering s (without_return (take MOST_KEPT_BYTES first)) before m between
-        → LineLeads guiding ordering s (without_return first) before m between
-    first_long m before between led = line_leads_long guiding ordering s m (take MOST_KEPT_BYTES first) first before between (kept_twice first) led
+    first_long : (m : SessionState) (was now : Option (List ℕ)) (before between : HeldObjects G O) → AnswersLead guiding ordering s (without_return (take MOST_KEPT_BYTES first)) was now before m between
+        → AnswersLead guiding ordering s (without_return first) was now before m between
+    first_long m was now before between led = answers_lead_long guiding ordering s m (take MOST_KEPT_BYTES first) first was now before between (kept_twice first) led
 
     pub first_leads_out : (m : SessionState) (was now : Option (List ℕ)) (asked : ℕ) (before between : HeldObjects G O)
-        → AnswersLine s (without_return (take MOST_KEPT_BYTES first)) was now Quit m asked → LineLeads guiding ordering s (without_return (take MOST_KEPT_BYTES first)) before m between
+        → AnswersLine s (without_return (take MOST_KEPT_BYTES first)) was now Quit m asked → AnswersLead guiding ordering s (without_return (take MOST_KEPT_BYTES first)) was now before m between
         → LinesLeadOut guiding ordering s (kept ++ piece) was now before m between
     first_leads_out m was now asked before between short led =
         let one = line_long s m first was now Quit asked short in
+        let long = first_long m was now before between led in
         subst (λ (z : List ℕ). LinesLeadOut guiding ordering s z was now before m between) (sym (completes s kept piece end none feed)) (record {
           lines = [];
           last = first;
           rest = others;
-          replies = one.reply;
+          replies = long.reply;
           led = record {
             whole = ap (λ (z : List ℕ). z ++ others) (sym (append-nil (ended first)));
             unbroken = unbroken_first s kept piece end none feed;
-            run = one_led s m (without_return first) one.reply before between one.answers (first_long m before between led);
+            run = one_led s m (without_return first) long.reply before between long.answers long.leads;
           };
           goes_on = All-nil GoesOn;
           ends = one.decides;
-          written = one.written;
+          written = long.written;
         })
 
     first_leads : (m : SessionState) (was now : Option (List ℕ)) (asked : ℕ) (before between : HeldObjects G O)
-        → AnswersLine s (without_return (take MOST_KEPT_BYTES first)) was now More m asked → LineLeads guiding ordering s (without_return (take MOST_KEPT_BYTES first)) before m between
+        → AnswersLine s (without_return (take MOST_KEPT_BYTES first)) was now More m asked → AnswersLead guiding ordering s (without_return (take MOST_KEPT_BYTES first)) was now before m between
         → LinesLead guiding ordering s (ended first) was now [] before m between
     first_leads m was now asked before between short led =
         let one = line_long s m first was now More asked short in
+        let long = first_long m was now before between led in
         record {
           lines = first ∷ [];
-          replies = one.reply;
+          replies = long.reply;
           led = record {
             whole = sym (append-nil (ended first)) ∙ sym (append-nil (ended first ++ []));
             unbroken = unbroken_first s kept piece end none feed;
-            run = one_led s m (without_return first) one.reply before between one.answers (first_long m before between led);
+            run = one_led s m (without_return first) long.reply before between long.answers long.leads;
           };
           goes_on = All-cons GoesOn (without_return first) [] one.decides (All-nil GoesOn);
-          written = one.written;
+          written = long.written;
         }
 
     pub first_leads_more : (m t : SessionState) (was mid now : Option (List ℕ)) (asked : ℕ) (before between after : HeldObjects G O) (r : Result Going Stop)
-        → AnswersLine s (without_return (take MOST_KEPT_BYTES first)) was mid More m asked → LineLeads guiding ordering s (without_return (take MOST_KEPT_BYTES first)) before m between
+        → AnswersLine s (without_return (take MOST_KEPT_BYTES first)) was mid More m asked → AnswersLead guiding ordering s (without_return (take MOST_KEPT_BYTES first)) was mid before m between
         → IfOk r (FeedsLead guiding ordering m others mid now between t after) → IfOk r (FeedsLead guiding ordering s (kept ++ piece) was now before t after)
     first_leads_more m t was mid now asked before between after (Ok going) short led f =
         subst (λ (z : List ℕ). FeedsLead guiding ordering s z was now before t after going) (sym (completes s kept piece end none feed))
@@ -152,9 +154,8 @@ module _ {G O : Type 0} (guiding : Guiding G) (ordering : Ordering O) where
   last_none s [] w objects e = record { replies = []; run = (refl, refl, refl); written = appended_nothing w }
   last_none s (b ∷ bs) w objects e = absurd (omega (arith, e))
 
-  pub last_led : (s t : SessionState) (line : List ℕ) (was now : Option (List ℕ)) (going : Going) (asked : ℕ) (before after : HeldObjects G O)
-      → (length line ≡ 0 → ⊥) → AnswersLine s (without_return line) was now going t asked → LineLeads guiding ordering s (without_return line) before t after
-      → LastLeads guiding ordering s line was now before t after
-  last_led s t [] was now going asked before after some one led = absurd (some refl)
-  last_led s t (b ∷ bs) was now going asked before after some one led =
-      record { replies = one.reply; run = one_led s t (without_return (b ∷ bs)) one.reply before after one.answers led; written = one.written }
+  pub last_led : (s t : SessionState) (line : List ℕ) (was now : Option (List ℕ)) (before after : HeldObjects G O)
+      → (length line ≡ 0 → ⊥) → AnswersLead guiding ordering s (without_return line) was now before t after → LastLeads guiding ordering s line was now before t after
+  last_led s t [] was now before after some led = absurd (some refl)
+  last_led s t (b ∷ bs) was now before after some led =
+      record { replies = led.reply; run = one_led s t (without_return (b ∷ bs)) led.reply before after led.answers led.leads; written = led.written }

@@ -28,11 +28,11 @@ pub mod OneEmpty
 pub mod Places
 mod Preferring
 pub mod Presents
-pub mod Proving
 pub mod ReadOnce
 pub mod RefusedLines
 pub mod Requesting
 pub mod Retracting
+pub mod Running
 pub mod ScopedLines
 pub mod Searched
 pub mod Searching

@@ -173,6 +173,7 @@ module _ {X : Type 0} (places : List (Option X)) (c : ℕ) (v : ObjectsView X) (
       let at : get_or (set places c w) c None ≡ w = get_or-set_same places c w None is.within in
       let last : object_at (number_at c (get_or (set places c w) c None)) (set places c w) ≡ w = object_there c (set places c w) (get_or (set places c w) c None) refl ∙ at in
       let lends : LendsChosen (objects_at places c) (objects_at (set places c w) c) = record {
+        there = ap (λ (o : Option X). is_some o) (object_there c places (get_or places c None) refl) ∙ sym (some_number c (get_or places c None));
         numbers = alike_numbered 0 places c w e;
         chosen = ap (number_at c) at ∙ alike_at c (get_or places c None) w e;
         places = lent_places places c (get_or places c None) w refl e

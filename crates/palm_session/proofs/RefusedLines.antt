@@ -6,7 +6,7 @@ use Rattle.palm_base.proofs.cited.Members.{member_here}
 use Rattle.palm_base.specs.First.{IsFirst, IsNone}
 use Rattle.palm_book.specs.Book.{Contents, name_of, user_name}
 use Rattle.palm_cert.proofs.cited.Readable.{pair_declared, pair_name, pair_value}
-use Rattle.palm_lang.specs.Reply.{ended, fixed_text}
+use Rattle.palm_lang.specs.Reply.{fixed_text}
 use Rattle.palm_lang.specs.declared.reply.Fixed.TheVariants.{Bye, Consistent, Contradiction, Done, End, Paused, Present}
 use Rattle.palm_lang.specs.declared.reply.Refusal.{Refusal}
 use Rattle.palm_model.specs.Log.{Removal}

@@ -19,10 +19,9 @@ use Rattle.palm_session.specs.Replies.{Run, Answered, GoesOn, Ends, KeepsOn}
 use Rattle.palm_session.specs.declared.limits.TheConstants.{MOST_KEPT_BYTES}
 use Rattle.palm_session.specs.declared.going.Going.{Going}
 use Rattle.palm_session.specs.declared.going.Going.TheVariants.{More, Quit}
-use Rattle.palm_session.specs.declared.request.Procedure.TheVariants.{Proof}
 use Rattle.palm_session.specs.declared.request.Request.TheVariants.{Solve}
 use Rattle.palm_session.specs.declared.taken.Taken.{Taken}
-use Rattle.palm_session.specs.declared.taken.Taken.TheVariants.{Said, ToProve}
+use Rattle.palm_session.specs.declared.taken.Taken.TheVariants.{Said, ToSearch}
 use Rattle.palm_lang.specs.declared.stop.WriteStop.{WriteStop as Stop}
 
 -- bytes of an unfinished line, as many as are kept of one
@@ -54,26 +53,26 @@ abbrev pub Decides : Going → List ℕ → Type 0
 Decides More line = GoesOn line
 Decides Quit line = Ends line
 
--- what became of a line: its reply, or that the request that it is admitted with is to be proved
+-- what became of a line: its reply, or that the search which it is admitted with is to run
 abbrev pub LineBecomes : SessionState → List ℕ → SessionState → Taken → Type 0
 LineBecomes s bytes t (Said reply going) = Answers s bytes (reply_text t reply) t
-LineBecomes s bytes t (ToProve budget) =
-    (line : Line) × IsRead s.mode bytes line × IsAdmitted (heard s line) line (Solve (Proof budget)) × ((heard s line).paused ≡ false) × (t ≡ heard s line)
+LineBecomes s bytes t (ToSearch by) =
+    (line : Line) × IsRead s.mode bytes line × IsAdmitted (heard s line) line (Solve by) × ((heard s line).paused ≡ false) × (t ≡ heard s line)
 
 -- a reply fits what is held
 abbrev pub TakenFits : SessionState → Taken → Type 0
 TakenFits t (Said reply going) = ReplyFits t reply
-TakenFits t (ToProve budget) = ⊤
+TakenFits t (ToSearch by) = ⊤
 
 -- answering the line so far has asked for support so often
 abbrev pub TakenAsks : SessionState → List ℕ → SessionState → ℕ → Taken → Type 0
 TakenAsks s bytes t asked (Said reply going) = Asks s bytes t asked
-TakenAsks s bytes t asked (ToProve budget) = asked ≡ 0
+TakenAsks s bytes t asked (ToSearch by) = asked ≡ 0
 
 -- the session goes on as the line says
 abbrev pub TakenDecides : List ℕ → Taken → Type 0
 TakenDecides bytes (Said reply going) = Decides going bytes
-TakenDecides bytes (ToProve budget) = GoesOn bytes
+TakenDecides bytes (ToSearch by) = GoesOn bytes
 
 -- the line was answered, its reply written, and support asked for so often
 pub record AnswersLine (before : SessionState) (line : List ℕ) (was now : Option (List ℕ)) (going : Going) (after : SessionState) (asked : ℕ) : Type 0 where

@@ -7,7 +7,6 @@ pub mod Led
 pub mod Logged
 pub mod Modes
 pub mod Objects
-pub mod Proved
 pub mod Refusals
 pub mod Replies
 pub mod ReplyText
@@ -15,3 +14,4 @@ pub mod Requests
 pub mod Serving
 pub mod State
 pub mod Told
+pub mod Ways

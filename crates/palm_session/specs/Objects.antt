@@ -1,5 +1,5 @@
 -- Objects that were handed in: those that are there, each at the place of its number, and the chosen one.
-use Rattle.std.specs.Prelude.{◌≡◌, ℕ, zero, suc, ◌<◌, ◌==◌, not, List, [], ◌∷◌, length, filter, map, get_or, set, Option, None, Some, if◌then◌else◌}
+use Rattle.std.specs.Prelude.{◌≡◌, ℕ, zero, suc, ◌<◌, ◌==◌, not, List, [], ◌∷◌, length, filter, map, get_or, set, Option, None, Some, is_some, if◌then◌else◌}
 
 -- what is seen of the objects: their places, of which that with a number holds the object with this number, if it is there,
 -- and the number of the chosen one. Place 0 is empty
@@ -80,8 +80,10 @@ chosen_object objects = object_at objects.chosen objects.places
 abbrev pub without_object : {X : Type 0} → ℕ → ObjectsView X → ObjectsView X
 without_object number objects = record { places = set objects.places number None; chosen = chosen_without number objects.chosen }
 
--- the chosen object was lent: the same ones are there, the same one is chosen, and each other object is as it was
+-- the chosen object was lent: it is there; afterwards the same ones are there, the same one is chosen, and each other object is
+-- as it was
 pub record LendsChosen {X : Type 0} (before after : ObjectsView X) : Type 0 where
+  pub there : is_some (chosen_object before) ≡ is_some before.chosen
   pub numbers : numbers_of after.places ≡ numbers_of before.places
   pub chosen : after.chosen ≡ before.chosen
   pub places : after.places ≡ with_object before.chosen (chosen_object after) before.places

@@ -146,18 +146,6 @@ budget_of (Repair tabu budget) = budget
 budget_of (Proof budget) = budget
 budget_of (Least target budget) = budget
 
--- the reply to a search tells how it ended, and is not its proof
-abbrev pub IsTold : Procedure → Type 0
-IsTold (Dbt budget) = ⊤
-IsTold (Repair tabu budget) = ⊤
-IsTold (Proof budget) = ⊥
-IsTold (Least target budget) = ⊤
-
--- the request is no search whose reply is its proof
-abbrev pub IsToldAtOnce : Request → Type 0
-IsToldAtOnce (Solve by) = IsTold by
-IsToldAtOnce _ = ⊤
-
 -- the request can be obeyed in what is held
 abbrev pub Admits : SessionState → Request → Type 0
 Admits s (Declare name domain) = CanDeclare s name domain

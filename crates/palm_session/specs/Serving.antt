@@ -1,5 +1,5 @@
 -- What a desk is seen as, and what taking an admitted request does to it.
-use Rattle.std.specs.Prelude.{◌≡◌, ℕ, ◌+◌, ◌-◌, ◌≤◌, min, Bool, List, ◌++◌, ◌⊎◌, ⊤, ℤ, Option, None, Some}
+use Rattle.std.specs.Prelude.{◌≡◌, ℕ, ◌+◌, ◌-◌, ◌≤◌, min, Bool, List, ◌++◌, ◌⊎◌, ⊤, Option, Some}
 use Rattle.palm_base.specs.declared.limits.TheConstants.{LAST_COUNT}
 use Rattle.palm_model.specs.Log.{Removal, log_pairs}
 use Rattle.palm_model.specs.State.{EngineState}
@@ -8,33 +8,31 @@ use Rattle.palm_engine.specs.Work.{most_asked}
 use Rattle.palm_search.specs.Calls.{SearchView}
 use Rattle.palm_search.specs.declared.ending.SearchEnd.{SearchEnd}
 use Rattle.palm_search.specs.declared.turn.Turn.{Turn}
-use Rattle.palm_repair.specs.Answers.{TellsDropped, end_of}
-use Rattle.palm_repair.specs.declared.answer.RepairAnswer.{RepairAnswer}
 use Rattle.palm_book.specs.Book.{Contents}
 use Rattle.palm_lang.specs.Reply.{fixed_text}
 use Rattle.palm_lang.specs.declared.reply.Fixed.TheVariants.{Done, Bye}
 use Rattle.palm_prefer.specs.declared.weights.Weight.{Weight}
 use Rattle.palm_read.specs.declared.mode.Mode.{Mode}
+use Rattle.palm_session.specs.Led.{Guiding, Ordering, FiltersBy, LeadsOn}
 use Rattle.palm_session.specs.Objects.{ObjectsView, HeldObjects, numbers_of}
 use Rattle.palm_session.specs.State.{SessionState, fresh}
 use Rattle.palm_session.specs.declared.going.Going.{Going}
 use Rattle.palm_session.specs.declared.going.Going.TheVariants.{More, Quit}
 use Rattle.palm_session.specs.declared.remainder.Own.{Own}
-use Rattle.palm_session.specs.declared.remainder.Own.TheVariants.{Said, Answer}
+use Rattle.palm_session.specs.declared.remainder.Own.TheVariants.{Said, Answer, Search as ToRun}
 use Rattle.palm_session.specs.declared.remainder.Remainder.{Remainder}
 use Rattle.palm_session.specs.declared.remainder.Remainder.TheVariants.{Say, Filter, Run, Search, End}
 use Rattle.palm_session.specs.declared.reply.Reply.{Reply}
-use Rattle.palm_session.specs.declared.reply.Reply.TheVariants.{Word, Ran as RanReply, Spent as SpentReply, SpentBest as SpentBestReply}
+use Rattle.palm_session.specs.declared.reply.Reply.TheVariants.{Word, Ran as RanReply}
 use Rattle.palm_session.specs.declared.request.Procedure.{Procedure}
-use Rattle.palm_session.specs.declared.request.Procedure.TheVariants.{Repair, Proof}
 use Rattle.palm_session.specs.declared.request.Request.{Request}
 use Rattle.palm_session.specs.declared.request.Request.TheVariants.{Ask, Step, Solve, Quit as QuitAsked}
 use Rattle.palm_session.specs.declared.taken.Taken.{Taken}
-use Rattle.palm_session.specs.declared.taken.Taken.TheVariants.{Said as SaidTaken, ToProve}
-use Rattle.palm_session.specs.Effects.{Effect, Telling, InShort, Nothing, Changes, Next, Rests, Filters, Searches, SettlesIn, SearchesIn, Follows, next, unless_paused, with_engine, with_search}
-use Rattle.palm_session.specs.Answers.{Accepts, Contradicts, IsAnswer, Says, WaitsFor, told_text}
+use Rattle.palm_session.specs.declared.taken.Taken.TheVariants.{Said as SaidTaken, ToSearch}
+use Rattle.palm_session.specs.Effects.{Effect, Telling, Nothing, Changes, Next, Rests, Filters, Searches, SearchesIn, next, unless_paused, with_search}
+use Rattle.palm_session.specs.Answers.{Accepts, Contradicts, IsAnswer, Says, WaitsFor}
 use Rattle.palm_session.specs.ReplyText.{reply_text, ReplyFits}
-use Rattle.palm_session.specs.Requests.{CanAsk, CanSearch, IsTold}
+use Rattle.palm_session.specs.Requests.{CanAsk}
 
 -- what a desk holds, how often its engine has asked for support, and the objects themselves
 pub record DeskView (G O : Type 0) : Type 0 where
@@ -82,24 +80,22 @@ pub data AsksFor (s : SessionState) (request : Request) (t : SessionState) (aske
 
 -- ---- what follows a change
 
--- the engine has settled, in as many revisions as are told, and asked for support so often
-pub record Ran (s : SessionState) (limit : Option ℕ) (told : ℕ) (t : SessionState) (asked : ℕ) : Type 0 where
+-- the engine has settled by the chosen order, in as many revisions as are told, and asked for support so often
+pub record Ran {G O : Type 0} (ordering : Ordering O) (s : SessionState) (limit : Option ℕ) (told : ℕ) (before : HeldObjects G O) (t : SessionState) (after : HeldObjects G O) (asked : ℕ) : Type 0 where
   pub count : ℕ
-  pub engine : EngineState
-  pub settles : SettlesIn s limit count engine
-  pub after : t ≡ with_engine s engine
+  pub filters : FiltersBy ordering s limit count before t after
   pub told_is : told ≡ min count LAST_COUNT
   pub asks : AsksWithin s.engine (Filters limit) t.engine asked
 
 -- the same within a limit, where all that ran are told
-pub record RanAll (s : SessionState) (limit told : ℕ) (t : SessionState) (asked : ℕ) : Type 0 where
-  pub ran : Ran s (Some limit) told t asked
+pub record RanAll {G O : Type 0} (ordering : Ordering O) (s : SessionState) (limit told : ℕ) (before : HeldObjects G O) (t : SessionState) (after : HeldObjects G O) (asked : ℕ) : Type 0 where
+  pub ran : Ran ordering s (Some limit) told before t after asked
   pub all : told ≡ ran.count
 
--- what was to follow has followed, and asked for support so often
-pub record Followed (s : SessionState) (what : Next) (t : SessionState) (asked : ℕ) : Type 0 where
+-- what was to follow has followed, led the chosen objects, and asked for support so often
+pub record Followed {G O : Type 0} (guiding : Guiding G) (ordering : Ordering O) (s : SessionState) (what : Next) (before : HeldObjects G O) (t : SessionState) (after : HeldObjects G O) (asked : ℕ) : Type 0 where
   pub effect : Effect
-  pub follows : Follows s what effect t
+  pub leads : LeadsOn guiding ordering s what effect before t after
   pub asks : AsksWithin s.engine what t.engine asked
 
 -- the search has run by the chosen guide and order, or without them, and has ended so
@@ -109,31 +105,13 @@ pub record HasRun (s : SessionState) (by : Procedure) (end : SearchEnd) (telling
   pub searches : SearchesIn s by turns end telling engine
   pub after : t ≡ with_search s turns engine
 
--- the same by decision-repair, which answers so
-pub record HasRepairedIn (s : SessionState) (tabu budget : ℕ) (answer : RepairAnswer) (t : SessionState) : Type 0 where
-  pub dropped : ℕ
-  pub run : HasRun s (Repair tabu budget) (end_of answer) (InShort (Some dropped)) t
-  pub told : TellsDropped answer dropped
-
--- the search has run, and the reply tells how it ended
-pub record HasSearched (s : SessionState) (by : Procedure) (reply : Reply) (t : SessionState) : Type 0 where
-  pub end : SearchEnd
-  pub telling : Telling
-  pub run : HasRun s by end telling t
-  pub told : reply_text t reply ≡ told_text t.book end telling
-  pub fits : ReplyFits t reply
-
--- the reply where the budget of a minimization was spent
-abbrev pub spent_reply : ℕ → Option (List ℤ) → Reply
-spent_reply turns None = SpentReply turns None
-spent_reply turns (Some values) = SpentBestReply turns values
-
 -- ---- requests, step by step
 
 -- what is said by itself is the request's own, by what is held then and by what happened
 abbrev pub IsOwn : SessionState → Request → Effect → Own → Type 0
 IsOwn s request effect (Said reply) = Says s request effect (reply_text s reply) × ReplyFits s reply
 IsOwn s request effect (Answer question) = request ≡ Ask question
+IsOwn s request effect (ToRun by) = ⊥
 
 -- `ok` is the request's own reply, whatever happens
 abbrev pub SaysDone : Request → Type 0
@@ -153,18 +131,13 @@ pub record Obeys (s : SessionState) (request : Request) (t : SessionState) (rema
   pub left : IsLeft t request remainder
   pub ends : request ≡ QuitAsked → remainder ≡ End
 
--- what was left is done, and this is to be said; support was asked for so often
-abbrev pub IsDone : SessionState → Remainder → SessionState → ℕ → Own → Type 0
-IsDone s (Say own) t asked said = (t ≡ s) × (asked ≡ 0) × (said ≡ own)
-IsDone s Filter t asked said = Followed s (unless_paused s) t asked × (said ≡ Said (Word Done))
-IsDone s (Run count) t asked said = (told : ℕ) × RanAll s count told t asked × (said ≡ Said (RanReply told))
-IsDone s End t asked said = (t ≡ s) × (asked ≡ 0) × (said ≡ Said (Word Bye))
-IsDone s (Search by) t asked said = (reply : Reply) × HasSearched s by reply t × (said ≡ Said reply)
-
--- a search that is left can be begun, and its reply is no proof
-abbrev pub CanDo : SessionState → Remainder → Type 0
-CanDo s (Search by) = CanSearch s by × IsTold by
-CanDo s _ = ⊤
+-- what was left is done and led the chosen objects, and this is to be said; support was asked for so often. A search is still to run
+abbrev pub IsDone : {G O : Type 0} → Guiding G → Ordering O → SessionState → Remainder → HeldObjects G O → SessionState → HeldObjects G O → ℕ → Own → Type 0
+IsDone guiding ordering s (Say own) before t after asked said = (t ≡ s) × (after ≡ before) × (asked ≡ 0) × (said ≡ own)
+IsDone guiding ordering s Filter before t after asked said = Followed guiding ordering s (unless_paused s) before t after asked × (said ≡ Said (Word Done))
+IsDone guiding ordering s (Run count) before t after asked said = (told : ℕ) × RanAll ordering s count told before t after asked × (said ≡ Said (RanReply told))
+IsDone guiding ordering s End before t after asked said = (t ≡ s) × (after ≡ before) × (asked ≡ 0) × (said ≡ Said (Word Bye))
+IsDone guiding ordering s (Search by) before t after asked said = (t ≡ s) × (after ≡ before) × (asked ≡ 0) × (said ≡ ToRun by)
 
 -- neither `paused` nor `contradiction` stands in place of the request's own reply
 pub record IsOpen (s : SessionState) (request : Request) : Type 0 where
@@ -175,11 +148,13 @@ pub record IsOpen (s : SessionState) (request : Request) : Type 0 where
 abbrev pub CanSay : SessionState → Own → Type 0
 CanSay s (Said reply) = ⊤
 CanSay s (Answer question) = CanAsk s question × IsOpen s (Ask question)
+CanSay s (ToRun by) = ⊤
 
--- the reply is what was to be said
-abbrev pub IsSaid : SessionState → Own → Reply → Type 0
-IsSaid s (Said own) reply = reply ≡ own
-IsSaid s (Answer question) reply = IsAnswer s question (reply_text s reply) × ReplyFits s reply
+-- what was to be said is said, or the search is to run
+abbrev pub IsSaid : SessionState → Own → Going → Taken → Type 0
+IsSaid s (Said own) going taken = taken ≡ SaidTaken own going
+IsSaid s (Answer question) going taken = (reply : Reply) × IsAnswer s question (reply_text s reply) × ReplyFits s reply × (taken ≡ SaidTaken reply going)
+IsSaid s (ToRun by) going taken = taken ≡ ToSearch by
 
 -- the session goes on, unless it was asked to end
 abbrev pub GoesAs : Going → Request → Type 0
@@ -194,14 +169,14 @@ pub record Takes (s : SessionState) (request : Request) (t : SessionState) (aske
   pub fits : ReplyFits t answer.0
   pub goes : GoesAs answer.1 request
 
--- the request is a search whose proof is the reply, does not wait, and nothing has happened yet
-pub record IsToProve (s : SessionState) (request : Request) (budget : ℕ) (t : SessionState) (asked : ℕ) : Type 0 where
-  pub is : request ≡ Solve (Proof budget)
+-- the request is a search, does not wait, and nothing has happened yet
+pub record IsToSearch (s : SessionState) (request : Request) (by : Procedure) (t : SessionState) (asked : ℕ) : Type 0 where
+  pub is : request ≡ Solve by
   pub goes : WaitsFor s request → ⊥
   pub same : t ≡ s
   pub quiet : asked ≡ 0
 
--- what became of a request: it was taken, or is to be proved
+-- what became of a request: it was taken, or is a search that is to run
 abbrev pub Becomes : SessionState → Request → SessionState → ℕ → Taken → Type 0
 Becomes s request t asked (SaidTaken reply going) = Takes s request t asked (reply, going)
-Becomes s request t asked (ToProve budget) = IsToProve s request budget t asked
+Becomes s request t asked (ToSearch by) = IsToSearch s request by t asked

@@ -12,31 +12,29 @@ ghost use Rattle.palm_model.specs.Log.{IsActive};
 ghost use Rattle.palm_model.specs.State.{EngineState, IsValid};
 ghost use Rattle.palm_read.specs.Name.{IsNameText};
 ghost use Rattle.palm_search.specs.Following.{GuideFollows};
-ghost use Rattle.palm_session.specs.Effects.{InShort, WithdrawsActive, best_end, best_telling, next_constraint, with_active_at, with_constraint, with_engine, with_variable, with_weight, without_constraint, without_guide, without_order};
-ghost use Rattle.palm_session.specs.Led.{FiltersBy, SearchesOn, objects_after};
+ghost use Rattle.palm_session.specs.Effects.{WithdrawsActive, next_constraint, with_active_at, with_constraint, with_engine, with_variable, with_weight, without_constraint, without_guide, without_order};
+ghost use Rattle.palm_session.specs.Led.{objects_after};
 ghost use Rattle.palm_session.specs.Modes.{heard, misheard};
 ghost use Rattle.palm_session.specs.Refusals.{IsFullOfVariables};
-ghost use Rattle.palm_session.specs.Requests.{CanAdd, StandsAt};
-ghost use Rattle.palm_session.specs.Proved.{HasProvedFront, HasProvedIn};
-ghost use Rattle.palm_session.specs.Serving.{HasRepairedIn, HasRun, Ran, Spends};
+ghost use Rattle.palm_session.specs.Requests.{CanAdd, CanSearch, StandsAt};
+ghost use Rattle.palm_session.specs.Serving.{Ran, Spends};
 ghost use Rattle.palm_session.specs.State.{HasVariable, IsHeld};
-ghost use Rattle.palm_session.specs.declared.request.Procedure.TheVariants as Procedure;
+ghost use Rattle.palm_session.specs.Ways.{HasSearched, HasToldFront};
 ghost use Rattle.palm_session.specs.declared.request.Request.TheVariants as Request;
 
 use crate::modes::{begun, mode_after};
-use crate::objects::{Objects, minimize_by, prove_by, repair_by, settle_by, solve_by};
+use crate::objects::{Objects, search_by, settle_by};
+use crate::request::Procedure;
 use crate::stop::Stop;
+use crate::ways::Searched;
 use crate::weights::Weights;
 use palm_agenda::Order;
-use palm_base::{Cid, NoMemory, Sink, Steps, ValueList, Var};
-use palm_best::Best;
-use palm_dbt::Answer;
+use palm_base::{Cid, NoMemory, Sink, Steps, ValueList};
 use palm_engine::Engine;
 use palm_guide::Guide;
 use palm_kind::Kind;
 use palm_lang::{Book, BookCon, Line, Mode, Name};
 use palm_model::Con;
-use palm_repair::RepairAnswer;
 use palm_search::{Search, Turn};
 use std::alloc::Global;
 use std::marker::Model;
@@ -343,116 +341,39 @@ impl<G: Guide, O: Order> Desk<G, O> {
         limit: Option<u64>,
         steps: &mut Steps<L>,
     ) -> Result<u64, NoMemory>
-        ensures ran { IfOk result (λ told. Ran self.old.state limit told self.new.state (steps.new - steps.old)) }
-        ensures led { OnOk result (FiltersBy (OrderFollows O.answers O.hears O.state) limit self.old.state.engine self.old.objects self.new.state.engine self.new.objects) }
+        ensures ran { IfOk result (λ told. Ran (OrderFollows O.answers O.hears O.state) self.old.state limit told self.old.objects self.new.state self.new.objects (steps.new - steps.old)) }
         ensures spends { Spends self.old self.new steps.old steps.new }
     {
         settle_by(&mut self.engine, &mut self.orders, limit, steps)?;
         Ok(self.engine.revisions())
     }
 
-    /// Searches by mac-dbt, by the guide and the order that are chosen, or without them, and leaves the constraints and the
-    /// log as they were. The journal is that of this search.
-    pub(crate) fn search_by_dbt<L: Ledger>(
+    /// Searches in this way, by the guide and the order that are chosen, or without them, and leaves the constraints and the log
+    /// as they were. The journal is that of this search. A proof is written meanwhile.
+    pub(crate) fn search<K: Sink, L: Ledger>(
         &mut self,
-        budget: u64,
-        steps: &mut Steps<L>,
-    ) -> Result<Answer, NoMemory>
-        requires { IsHeld self.old.state }
-        ensures searched { IfOk result (λ answer. HasRun self.old.state (Procedure.Dbt budget) answer (InShort None) self.new.state) }
-        ensures led { OnOk result (SearchesOn (GuideFollows G.answers G.hears G.state) (OrderFollows O.answers O.hears O.state) (Procedure.Dbt budget) self.old.state self.old.objects self.new.state self.new.objects) }
-        ensures spends { Spends self.old self.new steps.old steps.new }
-    {
-        self.search = Search::begin(self.alloc);
-        solve_by(
-            self.alloc,
-            &mut self.engine,
-            &mut self.search,
-            &mut self.guides,
-            &mut self.orders,
-            budget,
-            steps,
-        )
-    }
-
-    /// Searches by mac-dbt in the same way, and writes the proof meanwhile. At a stop a front of what some search from here
-    /// writes was written.
-    pub(crate) fn prove<K: Sink, L: Ledger>(
-        &mut self,
-        budget: u64,
+        by: Procedure,
         out: &mut K,
         steps: &mut Steps<L>,
-    ) -> Result<(), Stop>
-        requires { IsHeld self.old.state }
-        ensures proved { OnOk result (HasProvedIn self.old.state budget (K.state out.old).written (K.state out.new).written self.new.state) }
-        ensures front { IfErr result (λ stop. HasProvedFront stop self.old.state budget (K.state out.old).written (K.state out.new).written) }
+    ) -> Result<Searched, Stop>
+        requires held { IsHeld self.old.state }
+        requires can { CanSearch self.old.state by }
+        ensures searched { IfOk result (λ answer. HasSearched (GuideFollows G.answers G.hears G.state) (OrderFollows O.answers O.hears O.state) self.old.state by (K.state out.old).written (K.state out.new).written answer self.old.objects self.new.state self.new.objects) }
+        ensures front { IfErr result (λ stop. HasToldFront stop self.old.state by (K.state out.old).written (K.state out.new).written) }
         ensures counted { IsCounted (K.state out.old).faults (K.state out.new).faults result }
         ensures stands { IsSameSink (K.state out.old) (K.state out.new) result }
-        ensures led { OnOk result (SearchesOn (GuideFollows G.answers G.hears G.state) (OrderFollows O.answers O.hears O.state) (Procedure.Proof budget) self.old.state self.old.objects self.new.state self.new.objects) }
         ensures spends { Spends self.old self.new steps.old steps.new }
     {
         self.search = Search::begin(self.alloc);
-        prove_by(
+        search_by(
             self.alloc,
             &mut self.engine,
             &mut self.search,
             &self.book,
             &mut self.guides,
             &mut self.orders,
-            budget,
+            by,
             out,
-            steps,
-        )
-    }
-
-    /// Searches by decision-repair in the same way.
-    pub(crate) fn search_by_repair<L: Ledger>(
-        &mut self,
-        tabu: u32,
-        budget: u64,
-        steps: &mut Steps<L>,
-    ) -> Result<RepairAnswer, NoMemory>
-        requires held { IsHeld self.old.state }
-        requires some { 0 < tabu }
-        ensures searched { IfOk result (λ answer. HasRepairedIn self.old.state tabu budget answer self.new.state) }
-        ensures led { OnOk result (SearchesOn (GuideFollows G.answers G.hears G.state) (OrderFollows O.answers O.hears O.state) (Procedure.Repair tabu budget) self.old.state self.old.objects self.new.state self.new.objects) }
-        ensures spends { Spends self.old self.new steps.old steps.new }
-    {
-        self.search = Search::begin(self.alloc);
-        repair_by(
-            self.alloc,
-            &mut self.engine,
-            &mut self.search,
-            &mut self.guides,
-            &mut self.orders,
-            tabu,
-            budget,
-            steps,
-        )
-    }
-
-    /// Searches in the same way for values that give the variable the least one.
-    pub(crate) fn search_by_least<L: Ledger>(
-        &mut self,
-        target: Var,
-        budget: u64,
-        steps: &mut Steps<L>,
-    ) -> Result<Best, NoMemory>
-        requires held { IsHeld self.old.state }
-        requires declared { target < length self.old.state.book.variables }
-        ensures searched { IfOk result (λ best. HasRun self.old.state (Procedure.Least target budget) (best_end best) (best_telling best) self.new.state) }
-        ensures led { OnOk result (SearchesOn (GuideFollows G.answers G.hears G.state) (OrderFollows O.answers O.hears O.state) (Procedure.Least target budget) self.old.state self.old.objects self.new.state self.new.objects) }
-        ensures spends { Spends self.old self.new steps.old steps.new }
-    {
-        self.search = Search::begin(self.alloc);
-        minimize_by(
-            self.alloc,
-            &mut self.engine,
-            &mut self.search,
-            &mut self.guides,
-            &mut self.orders,
-            target,
-            budget,
             steps,
         )
     }

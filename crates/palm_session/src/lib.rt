@@ -20,6 +20,7 @@ mod session;
 mod settling;
 mod stop;
 mod taken;
+mod ways;
 mod weights;
 mod withhold;
 

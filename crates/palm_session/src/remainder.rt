@@ -9,6 +9,8 @@ pub(crate) enum Own {
     Said(Reply),
     /// The answer to a question.
     Answer(Question),
+    /// How this search ends, which is still to run.
+    Search(Procedure),
 }
 
 /// What is left of a request when its change is made.

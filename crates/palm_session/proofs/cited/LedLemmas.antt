@@ -5,7 +5,7 @@ use Rattle.palm_base.specs.Streams.{Appended}
 use Rattle.palm_base.proofs.cited.StreamLemmas.{appended_both}
 use Rattle.palm_lang.specs.Reply.{ended}
 use Rattle.palm_read.specs.Lines.{HasNoFeed, without_return, last_line}
-use Rattle.palm_session.specs.Led.{Guiding, Ordering, HasRequest, LineLeads, RunLeads, TextLeads, LinesLead, LinesLeadOut, FeedsLead, LastLeads}
+use Rattle.palm_session.specs.Led.{Guiding, Ordering, HasRequest, AnswersLead, LineLeads, RunLeads, TextLeads, LinesLead, LinesLeadOut, FeedsLead, LastLeads}
 use Rattle.palm_session.specs.Objects.{HeldObjects}
 use Rattle.palm_session.specs.Replies.{GoesOn, Ends}
 use Rattle.palm_session.specs.State.{SessionState}
@@ -79,9 +79,9 @@ module _ {G O : Type 0} (guiding : Guiding G) (ordering : Ordering O) where
   -- ---- lines of which the first bytes alone are kept
 
   -- a line leads as each line with its first bytes does
-  pub line_leads_long : (s t : SessionState) (a b : List ℕ) (before after : HeldObjects G O) → take MOST_KEPT_BYTES a ≡ take MOST_KEPT_BYTES b
-      → LineLeads guiding ordering s (without_return a) before t after → LineLeads guiding ordering s (without_return b) before t after
-  line_leads_long s t a b before after e led = elim led [
+  line_leads_long : (s t : SessionState) (a b reply : List ℕ) (before after : HeldObjects G O) → take MOST_KEPT_BYTES a ≡ take MOST_KEPT_BYTES b
+      → LineLeads guiding ordering s (without_return a) before reply t after → LineLeads guiding ordering s (without_return b) before reply t after
+  line_leads_long s t a b reply before after e led = elim led [
     | inl none ↦ inl (
       (λ (request : Request) (has : HasRequest s (without_return b) request).
           none.0 request (record { line = has.line; read = same_first_bytes_read s.mode b a has.line (sym e) has.read; admitted = has.admitted })),
@@ -93,6 +93,15 @@ module _ {G O : Type 0} (guiding : Guiding G) (ordering : Ordering O) where
       some.2,
     )
   ]
+
+  pub answers_lead_long : (s t : SessionState) (a b : List ℕ) (was now : Option (List ℕ)) (before after : HeldObjects G O) → take MOST_KEPT_BYTES a ≡ take MOST_KEPT_BYTES b
+      → AnswersLead guiding ordering s (without_return a) was now before t after → AnswersLead guiding ordering s (without_return b) was now before t after
+  answers_lead_long s t a b was now before after e led = record {
+    reply = led.reply;
+    answers = same_first_bytes s a b led.reply t e led.answers;
+    leads = line_leads_long s t a b led.reply before after e led.leads;
+    written = led.written;
+  }
 
   -- the first line of a text of which the front was kept
   long_led : (s t : SessionState) (rest more l : List ℕ) (ls : List (List ℕ)) (back replies : List ℕ) (before after : HeldObjects G O) → HasNoFeed rest
@@ -116,7 +125,7 @@ module _ {G O : Type 0} (guiding : Guiding G) (ordering : Ordering O) where
             a.run.2,
             a.run.3,
             same_first_bytes s l (rest ++ p.0) a.run.0 a.run.2 same a.run.4,
-            line_leads_long s a.run.2 l (rest ++ p.0) before a.run.3 same a.run.5,
+            line_leads_long s a.run.2 l (rest ++ p.0) a.run.0 before a.run.3 same a.run.5,
             a.run.6,
             a.run.7,
           );
@@ -193,7 +202,7 @@ module _ {G O : Type 0} (guiding : Guiding G) (ordering : Ordering O) where
         run.2,
         run.3,
         same_first_bytes s short (b ∷ bs) run.0 run.2 (kept_twice (b ∷ bs)) run.4,
-        line_leads_long s run.2 short (b ∷ bs) before run.3 (kept_twice (b ∷ bs)) run.5,
+        line_leads_long s run.2 short (b ∷ bs) run.0 before run.3 (kept_twice (b ∷ bs)) run.5,
         run.6,
         run.7,
       )

@@ -1,5 +1,5 @@
 -- What is told in reply to each line of a run is true.
-use Rattle.std.proofs.Common.{◌≡◌, ℕ, true, List, [], ◌∷◌, refl, sym, ap, ◌∙◌, subst}
+use Rattle.std.proofs.Common.{◌≡◌, ℕ, List, [], ◌∷◌, refl, sym, ap, ◌∙◌, subst}
 use Rattle.palm_base.proofs.cited.FirstCauses.{first_not_none}
 use Rattle.palm_base.specs.First.{IsNone}
 use Rattle.palm_book.specs.Named.{IsVariable}

@@ -1,5 +1,5 @@
-use Rattle.palm_session.proofs.Heard.{has_settled, settles_by}
-use Rattle.palm_session.proofs.Places.{chosen_first, chosen_last, chosen_told, settled_objects}
+use Rattle.palm_session.proofs.Heard.{settles_by}
+use Rattle.palm_session.proofs.Places.{chosen_first, chosen_last, settled_objects}
 use Rattle.palm_session.proofs.objects.settle_by.Goals as goal
 
 pub returns-clause-orders : goal.returns-clause-orders
@@ -8,11 +8,6 @@ returns-clause-orders g c =
 
 pub returns-clause-ok : goal.returns-clause-ok
 returns-clause-ok g c =
-    rw (chosen_told c.orders.inside.places.items c.orders.inside.chosen c.args.orders.now c.orders.invariant c.orders.view_is c.index_mut.result.now c.index_mut.ensures.value)
-    (has_settled _ _ _ _ _ _ c.settle.result c.settle.ensures.ok)
-
-pub returns-clause-led : goal.returns-clause-led
-returns-clause-led g c =
     let o = c.orders.inside in
     let w = c.settle.new.order in
     settles_by _ c.args.limit c.index_mut.result.now w _ _ _ _ c.settle.result

@@ -34,5 +34,4 @@ returns-then-is_empty-clause-led g c = last_none _ _ _ _ _ _ (search rules)
 pub returns-in-Ok-clause-led : goal.returns-in-Ok-clause-led
 returns-in-Ok-clause-led g c =
     let some : length c.args.line.now ≡ 0 → ⊥ = λ e. search rules in
-    let one = rw c.without_return.ensures at c.in-Ok.ensures.answers in
-    last_led (guiding g) (ordering g) _ _ _ _ _ c.in-Ok.field-0 _ _ _ some one (rw c.without_return.ensures at c.in-Ok.ensures.led)
+    last_led (guiding g) (ordering g) _ _ _ _ _ _ _ some (rw c.without_return.ensures at c.in-Ok.ensures.led)
