@@ -9,12 +9,13 @@ use Rattle.palm_book.specs.declared.book.BookCon.{BookCon}
 use Rattle.palm_book.specs.declared.limits.TheConstants.{MOST_VARIABLES, MOST_CONSTRAINTS}
 use Rattle.palm_book.proofs.cited.Any.{member_any}
 use Rattle.palm_book.proofs.cited.Resolving.{known}
-use Rattle.palm_claim.specs.Draft.{Draft, IsOpen, MayStand, blank}
+use Rattle.palm_claim.specs.Draft.{Draft, IsOpen, MayList, blank}
 use Rattle.palm_claim.specs.Statement.{Says}
 use Rattle.palm_claim.specs.Verdict.{Meets, certificates}
 use Rattle.palm_claim.specs.declared.statement.Stage.{Stage}
 use Rattle.palm_claim.specs.declared.statement.Stage.TheVariants.{Claimed, Closed, Declaring, Listing, Proving, Unopened}
-use Rattle.palm_claim.specs.declared.statement.Statement.TheVariants.{Constraint, Header, Variable}
+use Rattle.palm_claim.specs.declared.statement.CertificatePhrase.TheVariants.{Header}
+use Rattle.palm_claim.specs.declared.statement.Statement.TheVariants.{Constraint, Phrase, Variable}
 use Rattle.palm_model.specs.Constraint.{scope}
 use Rattle.palm_read.specs.declared.line.Line.TheVariants.{Add, Var}
 use Rattle.palm_read.specs.declared.line.Shape.{Shape}
@@ -43,21 +44,7 @@ pub record AreDeclared (book : Contents) (us : List ℕ) (cs : List BookCon) : T
 
 -- ---- stages
 
--- a constraint may stand there
-abbrev pub MayList : Stage → Type 0
-MayList Declaring = Unit {0}
-MayList Listing = Unit {0}
-MayList _ = ⊥
-
-may_list : (stage : Stage) (name : List ℕ) (shape : Shape) → MayList stage → MayStand stage (Constraint name shape)
-may_list Unopened name shape may = may
-may_list Declaring name shape may = tt
-may_list Listing name shape may = tt
-may_list Proving name shape may = may
-may_list (Claimed claim) name shape may = may
-may_list (Closed claim) name shape may = may
-
--- so may what follows
+-- where a constraint may stand, so may what follows
 pub list_open : (stage : Stage) → MayList stage → IsOpen stage
 list_open Unopened may = may
 list_open Declaring may = tt
@@ -68,10 +55,10 @@ list_open (Closed claim) may = may
 
 -- ---- the header
 
-header_reads : Says (codes "palm-cert 1") Header → Reads certificates blank header_line (record { stage = Declaring; book = record { variables = []; constraints = [] }; proved = [] })
+header_reads : Says (codes "palm-cert 1") (Phrase Header) → Reads certificates blank header_line (record { stage = Declaring; book = record { variables = []; constraints = [] }; proved = [] })
 header_reads says =
     reads_line certificates blank (record { stage = Declaring; book = record { variables = []; constraints = [] }; proved = [] }) (codes "palm-cert 1") header_line refl says.0.plain
-    (record { statement = Header; says = says; none = no_cause (Meets blank Header) (λ h. h refl) (λ h. h) (λ h. h) (λ h. h) (λ h. h) (λ h. h); leads = refl })
+    (record { statement = Phrase Header; says = says; none = no_cause (Meets blank (Phrase Header)) (λ h. h refl) (λ h. h) (λ h. h) (λ h. h) (λ h. h) (λ h. h); leads = refl })
 
 module _ (book : Contents) (us : List ℕ) (cs : List BookCon) (are : AreDeclared book us cs) where
   -- ---- variables
@@ -188,7 +175,7 @@ module _ (book : Contents) (us : List ℕ) (cs : List BookCon) (are : AreDeclare
         statement = Constraint c.name shape;
         says = says;
         none =
-            no_cause (Meets (listing stage acc) (Constraint c.name shape)) (λ h. h (may_list stage c.name shape may))
+            no_cause (Meets (listing stage acc) (Constraint c.name shape)) (λ h. h may)
             (λ h. elim h [ inl has ↦ constraint_new earlier c later acc split lists has | inr unknown ↦ known (entries book.variables us) shape (moved (place_in us) c.con) says_what unknown ])
             (λ h. elim h [ inl far ↦ near far | inr full ↦ constraint_room earlier c later acc split lists full ]) (λ h. h) (λ h. h) (λ h. h);
         leads = (moved (place_in us) c.con, says_what, refl);
@@ -226,7 +213,7 @@ module _ (book : Contents) (us : List ℕ) (cs : List BookCon) (are : AreDeclare
         }
 
     -- the header, the variables and the constraints
-    pub declarations_read : Says (codes "palm-cert 1") Header → ((x : ℕ) → x < length book.variables → (line : List ℕ) × IsDeclaredBy book.variables x line)
+    pub declarations_read : Says (codes "palm-cert 1") (Phrase Header) → ((x : ℕ) → x < length book.variables → (line : List ℕ) × IsDeclaredBy book.variables x line)
         → HaveRead blank (header_line ++ flat_map (declared_line book.variables) us ++ flat_map (added_line book.variables) cs)
     declarations_read header each =
         let first = header_line ++ flat_map (declared_line book.variables) us in

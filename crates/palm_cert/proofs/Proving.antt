@@ -14,7 +14,8 @@ use Rattle.palm_claim.specs.Verdict.{Meets, certificates}
 use Rattle.palm_claim.specs.Step.{IsReached, IsRight, pair_at, pairs_at}
 use Rattle.palm_claim.specs.declared.statement.Stage.{Stage}
 use Rattle.palm_claim.specs.declared.statement.Stage.TheVariants.{Claimed, Closed, Proving}
-use Rattle.palm_claim.specs.declared.statement.Statement.TheVariants.{ConflictClaim, End, Step, ValueClaim}
+use Rattle.palm_claim.specs.declared.statement.CertificatePhrase.TheVariants.{ConflictClaim, End, Step, ValueClaim}
+use Rattle.palm_claim.specs.declared.statement.Statement.TheVariants.{Phrase}
 use Rattle.palm_claim.specs.declared.verdict.Claim.{Claim}
 use Rattle.palm_claim.specs.declared.verdict.Claim.TheVariants.{Conflict, Gone}
 use Rattle.palm_book.proofs.cited.Pairs.{pair_is, variable_is}
@@ -158,17 +159,17 @@ module _ (book : Contents) (us : List ℕ) (cs acc : List BookCon) (are : AreDec
     step_proved : proved_by (earlier ++ r ∷ []) ≡ proved_by earlier ++ other_pair r.pair ∷ []
     step_proved = ap (λ (ps : List Pair). map other_pair ps) (map-append (λ (s : Removal). s.pair) earlier (r ∷ [])) ∙ map-append other_pair (log_pairs earlier) (r.pair ∷ [])
 
-    step_reads : (stage : Stage) (line text : List ℕ) → IsOpen stage → ended line ≡ text → Says line (Step (name_of book.variables r.pair.var) r.pair.value (user_name book.constraints r.by) numbers)
+    step_reads : (stage : Stage) (line text : List ℕ) → IsOpen stage → ended line ≡ text → Says line (Phrase (Step (name_of book.variables r.pair.var) r.pair.value (user_name book.constraints r.by) numbers))
         → Reads certificates (proving stage (proved_by earlier)) text (proving Proving (proved_by (earlier ++ r ∷ [])))
     step_reads stage line text ready ends says =
         let name = name_of book.variables r.pair.var in
         let by = user_name book.constraints r.by in
         reads_line certificates (proving stage (proved_by earlier)) (proving Proving (proved_by (earlier ++ r ∷ []))) line text ends says.0.plain
         (record {
-          statement = Step name r.pair.value by numbers;
+          statement = Phrase (Step name r.pair.value by numbers);
           says = says;
           none =
-              no_cause (Meets (proving stage (proved_by earlier)) (Step name r.pair.value by numbers)) (λ h. h ready)
+              no_cause (Meets (proving stage (proved_by earlier)) (Phrase (Step name r.pair.value by numbers))) (λ h. h ready)
               (λ h. elim h [ inl u ↦ u (own_declared r.pair step_used is.declared) | inr u ↦ u step_named ]) (λ h. h) step_numbered step_certain (λ h. h);
           leads = (other_pair r.pair, own_pair r.pair step_used, ap (λ (ps : List Pair). proving Proving ps) step_proved);
         })
@@ -183,7 +184,7 @@ module _ (book : Contents) (us : List ℕ) (cs acc : List BookCon) (are : AreDec
 
   module _ (steps : List Removal)
       (each : (earlier : List Removal) (r : Removal) (later : List Removal) → steps ≡ earlier ++ r ∷ later → IsStep book cs earlier r (numbers_of steps r.reasons))
-      (says : (r : Removal) → Contains steps r → Says (spaced (step_words book.variables r.pair (user_name book.constraints r.by) (numbers_of steps r.reasons))) (Step (name_of book.variables r.pair.var) r.pair.value (user_name book.constraints r.by) (numbers_of steps r.reasons))) where
+      (says : (r : Removal) → Contains steps r → Says (spaced (step_words book.variables r.pair (user_name book.constraints r.by) (numbers_of steps r.reasons))) (Phrase (Step (name_of book.variables r.pair.var) r.pair.value (user_name book.constraints r.by) (numbers_of steps r.reasons)))) where
     steps_from : (stage : Stage) → IsOpen stage → (earlier later : List Removal) → steps ≡ earlier ++ later → HaveProved (proving stage (proved_by earlier)) (flat_map (step_line book steps) later) steps
     steps_from stage ready earlier [] split = record {
       stage = stage;
@@ -216,10 +217,10 @@ module _ (book : Contents) (us : List ℕ) (cs acc : List BookCon) (are : AreDec
         let mine = own_pair pair used in
         reads_line certificates (proving stage (proved_by steps)) (proving (Claimed (Gone (other_pair pair))) (proved_by steps)) (spaced (claim_words book.variables (Gone pair))) (claim_line book.variables (Gone pair)) refl says.0.plain
         (record {
-          statement = ValueClaim name pair.value;
+          statement = Phrase (ValueClaim name pair.value);
           says = says;
           none =
-              no_cause (Meets (proving stage (proved_by steps)) (ValueClaim name pair.value)) (λ h. h ready)
+              no_cause (Meets (proving stage (proved_by steps)) (Phrase (ValueClaim name pair.value))) (λ h. h ready)
               (λ h. h (own_declared pair used has)) (λ h. h) (λ h. h) (λ h. h)
               (λ h.
               let same = pair_is own.variables name pair.value (other_pair pair) h.0 apart mine h.1 in
@@ -238,10 +239,10 @@ module _ (book : Contents) (us : List ℕ) (cs acc : List BookCon) (are : AreDec
         let mine = own_variable x used in
         reads_line certificates (proving stage (proved_by steps)) (proving (Claimed (Conflict (other x))) (proved_by steps)) (spaced (claim_words book.variables (Conflict x))) (claim_line book.variables (Conflict x)) refl says.0.plain
         (record {
-          statement = ConflictClaim name;
+          statement = Phrase (ConflictClaim name);
           says = says;
           none =
-              no_cause (Meets (proving stage (proved_by steps)) (ConflictClaim name)) (λ h. h ready)
+              no_cause (Meets (proving stage (proved_by steps)) (Phrase (ConflictClaim name))) (λ h. h ready)
               (λ h. h (own_named x used)) (λ h. h) (λ h. h) (λ h. h)
               (λ h.
               let same = variable_is own.variables name (other x) h.0 apart mine h.1 in
@@ -249,18 +250,18 @@ module _ (book : Contents) (us : List ℕ) (cs acc : List BookCon) (are : AreDec
           leads = (other x, mine, refl);
         })
 
-    end_reads : (claim : Claim) → Says (codes "end") End → Reads certificates (proving (Claimed claim) (proved_by steps)) (fixed_text EndText) (proving (Closed claim) (proved_by steps))
+    end_reads : (claim : Claim) → Says (codes "end") (Phrase End) → Reads certificates (proving (Claimed claim) (proved_by steps)) (fixed_text EndText) (proving (Closed claim) (proved_by steps))
     end_reads claim says =
         reads_line certificates (proving (Claimed claim) (proved_by steps)) (proving (Closed claim) (proved_by steps)) (codes "end") (fixed_text EndText) refl says.0.plain
         (record {
-          statement = End;
+          statement = Phrase End;
           says = says;
-          none = no_cause (Meets (proving (Claimed claim) (proved_by steps)) End) (λ h. h tt) (λ h. h) (λ h. h) (λ h. h) (λ h. h) (λ h. h);
+          none = no_cause (Meets (proving (Claimed claim) (proved_by steps)) (Phrase End)) (λ h. h tt) (λ h. h) (λ h. h) (λ h. h) (λ h. h) (λ h. h);
           leads = (claim, refl, refl);
         })
 
     pub claim_reads : (claim : Claim) → Contains us (claim_var claim) → IsClaimed book claim → IsReached book (log_pairs steps) claim
-        → Says (spaced (claim_words book.variables claim)) (claim_statement book.variables claim) → Says (codes "end") End
+        → Says (spaced (claim_words book.variables claim)) (claim_statement book.variables claim) → Says (codes "end") (Phrase End)
         → Reads certificates (proving stage (proved_by steps)) (claim_line book.variables claim ++ fixed_text EndText) (proving (Closed (other_claim claim)) (proved_by steps))
     claim_reads (Gone pair) used has reached says ends =
         reads_then certificates (proving stage (proved_by steps)) (proving (Claimed (other_claim (Gone pair))) (proved_by steps)) (proving (Closed (other_claim (Gone pair))) (proved_by steps))

@@ -5,8 +5,10 @@ use Rattle.palm_book.specs.Named.{named}
 use Rattle.palm_book.specs.declared.book.BookCon.{BookCon}
 use Rattle.palm_cert.specs.Certificate.{claim_words, declared_line, numbers_of, step_words}
 use Rattle.palm_claim.specs.Statement.{Says}
+use Rattle.palm_claim.specs.declared.statement.CertificatePhrase.{CertificatePhrase}
+use Rattle.palm_claim.specs.declared.statement.CertificatePhrase.TheVariants.{Header, Step, ValueClaim, ConflictClaim, End}
 use Rattle.palm_claim.specs.declared.statement.Statement.{Statement}
-use Rattle.palm_claim.specs.declared.statement.Statement.TheVariants.{Header, Variable, Constraint, Step, ValueClaim, ConflictClaim, End}
+use Rattle.palm_claim.specs.declared.statement.Statement.TheVariants.{Variable, Constraint, Phrase}
 use Rattle.palm_claim.specs.declared.verdict.Claim.{Claim}
 use Rattle.palm_claim.specs.declared.verdict.Claim.TheVariants.{Gone, Conflict}
 use Rattle.palm_lang.specs.Reply.{ended}
@@ -27,17 +29,17 @@ pub record IsDeclaredBy (variables : List BookVar) (x : ℕ) (line : List ℕ) :
   pub near : IsBeyond (Var (name_of variables x) domain) → ⊥
 
 -- what a claim is to say
-abbrev pub claim_statement : List BookVar → Claim → Statement
-claim_statement variables (Gone pair) = ValueClaim (name_of variables pair.var) pair.value
-claim_statement variables (Conflict x) = ConflictClaim (name_of variables x)
+abbrev pub claim_statement : List BookVar → Claim → Statement CertificatePhrase
+claim_statement variables (Gone pair) = Phrase (ValueClaim (name_of variables pair.var) pair.value)
+claim_statement variables (Conflict x) = Phrase (ConflictClaim (name_of variables x))
 
 -- each line of the certificate of these steps says what was written
 pub record AreReadable (book : Contents) (steps : List Removal) (claim : Claim) : Type 0 where
-  pub header : Says (codes "palm-cert 1") Header
+  pub header : Says (codes "palm-cert 1") (Phrase Header)
   pub variable : (x : ℕ) → x < length book.variables → (line : List ℕ) × IsDeclaredBy book.variables x line
   pub constraint : (c : BookCon) → Contains book.constraints c → Says (text_of (Add c.name (named book.variables c.con))) (Constraint c.name (named book.variables c.con))
   pub near : (c : BookCon) → Contains book.constraints c → IsBeyond (Add c.name (named book.variables c.con)) → ⊥
   pub step : (r : Removal) → Contains steps r → Says (spaced (step_words book.variables r.pair (user_name book.constraints r.by) (numbers_of steps r.reasons)))
-      (Step (name_of book.variables r.pair.var) r.pair.value (user_name book.constraints r.by) (numbers_of steps r.reasons))
+      (Phrase (Step (name_of book.variables r.pair.var) r.pair.value (user_name book.constraints r.by) (numbers_of steps r.reasons)))
   pub claims : Says (spaced (claim_words book.variables claim)) (claim_statement book.variables claim)
-  pub ends : Says (codes "end") End
+  pub ends : Says (codes "end") (Phrase End)

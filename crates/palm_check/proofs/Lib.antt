@@ -1,3 +1,1 @@
 pub mod Keeping
-pub mod Reading
-pub mod cited

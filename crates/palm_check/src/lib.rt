@@ -1,14 +1,10 @@
-//! The checker of certificates. It takes them line by line, by their stages, over what they list; it knows no log, no
-//! agenda, no engine and no search.
+//! The checker of certificates: what a certificate has besides what all texts list, which is its steps and its claim.
 #![tactic(auto)]
 
-mod checker;
+mod body;
 mod phrases;
-mod reasons;
-mod statements;
+mod stages;
 mod verdict;
 
 pub use palm_claim::{Cause, Proved, Verdict};
-pub use phrases::{read_reasons, read_value};
-pub use reasons::pairs_at;
 pub use verdict::check;

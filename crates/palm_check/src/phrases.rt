@@ -1,29 +1,15 @@
-//! Reading the forms that only certificates have.
-ghost use Rattle.std.specs.Prelude.{◌≡◌, true, false, IfNone, IfSome, option_map};
-ghost use Rattle.palm_base.specs.Numbers.{AreDigits, digits_number};
-ghost use Rattle.palm_claim.specs.Reader.{begins_phrase, claim_at, header_at, is_lead, is_step_number, is_value, next_number, phrase_at, phrase_of, reasons_at, step_at, value_at};
-ghost use Rattle.palm_read.specs.Linear.{signed};
-ghost use Rattle.palm_read.specs.Reader.Held.{Gives, GivesAll};
-ghost use Rattle.palm_read.specs.Reader.Lists.{many_at};
+//! Reading the phrases of certificates.
+ghost use Rattle.std.specs.Prelude.{◌≡◌};
+ghost use Rattle.palm_claim.specs.Reader.{claim_at, header_at, is_lead, phrase_at, step_at};
+ghost use Rattle.palm_read.specs.Reader.Held.{Gives};
 
-use palm_base::{Value, read_int};
-use palm_claim::{Statement, StepList};
-use palm_model::GREATEST_VALUE;
+use palm_claim::CertificatePhrase;
 use palm_read::{Cursor, LineError, Name, TokenKind};
 use std::alloc::Global;
+use text_check::{read_reasons, read_value};
 
-/// Whether the token in front is the first word of such a form.
-#[tactic(auto, unfolding(palm_claim::specs::Reader::begins_phrase))]
-pub fn begins_phrase(cursor: &Cursor<'_>) -> bool
-    ensures { result ≡ begins_phrase cursor.now }
-{
-    match cursor.text(TokenKind::Word) {
-        Some(word) => is_lead(word),
-        None => false,
-    }
-}
-
-fn is_lead(word: &[u8]) -> bool
+/// Whether a phrase begins with the word.
+pub fn is_lead(word: &[u8]) -> bool
     ensures { result ≡ is_lead word.now }
 {
     word == b"step".as_slice()
@@ -32,37 +18,25 @@ fn is_lead(word: &[u8]) -> bool
         || word == b"palm".as_slice()
 }
 
-/// What all tokens say by such a form.
-#[tactic(auto, unfolding(palm_claim::specs::Reader::phrase_of, palm_read::specs::Reader::Steps::and_then, palm_read::specs::Reader::Steps::choose))]
-pub fn read_phrase(alloc: Global, cursor: &mut Cursor<'_>) -> Result<Statement, LineError>
-    ensures { GivesAll (λ statement. statement) result (phrase_of cursor.old) }
-{
-    let statement = phrase(cursor, alloc)?;
-    if !cursor.is_at_end() {
-        return Err(LineError::Form);
-    }
-    Ok(statement)
-}
-
-/// Reads a form by its first word.
+/// Reads a phrase by its first word.
 #[tactic(auto, unfolding(palm_claim::specs::Reader::phrase_at, palm_read::specs::Reader::Steps::when))]
-fn phrase(cursor: &mut Cursor<'_>, alloc: Global) -> Result<Statement, LineError>
-    ensures { Gives (λ statement. statement) result cursor.new (phrase_at cursor.old) }
+pub fn read_phrase(cursor: &mut Cursor<'_>, alloc: Global) -> Result<CertificatePhrase, LineError>
+    ensures { Gives (λ phrase. phrase) result cursor.new (phrase_at cursor.old) }
 {
     if cursor.takes_word(b"step") {
         step(cursor, alloc)
     } else if cursor.takes_word(b"claim") {
         claim(cursor, alloc)
     } else if cursor.takes_word(b"end") {
-        Ok(Statement::End)
+        Ok(CertificatePhrase::End)
     } else {
         header(cursor)
     }
 }
 
 #[tactic(auto, unfolding(palm_claim::specs::Reader::header_at, palm_read::specs::Reader::Steps::and_then))]
-fn header(cursor: &mut Cursor<'_>) -> Result<Statement, LineError>
-    ensures { Gives (λ statement. statement) result cursor.new (header_at cursor.old) }
+fn header(cursor: &mut Cursor<'_>) -> Result<CertificatePhrase, LineError>
+    ensures { Gives (λ phrase. phrase) result cursor.new (header_at cursor.old) }
 {
     cursor.keyword(b"palm")?;
     cursor.sign(b"-")?;
@@ -70,19 +44,19 @@ fn header(cursor: &mut Cursor<'_>) -> Result<Statement, LineError>
     if !cursor.takes(TokenKind::Digits, b"1") {
         return Err(LineError::Form);
     }
-    Ok(Statement::Header)
+    Ok(CertificatePhrase::Header)
 }
 
 #[tactic(auto, unfolding(palm_claim::specs::Reader::step_at, palm_read::specs::Reader::Steps::and_then))]
-fn step(cursor: &mut Cursor<'_>, alloc: Global) -> Result<Statement, LineError>
-    ensures { Gives (λ statement. statement) result cursor.new (step_at cursor.old) }
+fn step(cursor: &mut Cursor<'_>, alloc: Global) -> Result<CertificatePhrase, LineError>
+    ensures { Gives (λ phrase. phrase) result cursor.new (step_at cursor.old) }
 {
     let name = cursor.owned_name(alloc)?;
     let value = read_value(cursor)?;
     cursor.keyword(b"by")?;
     let by = cursor.owned_name(alloc)?;
     let reasons = read_reasons(cursor, alloc)?;
-    Ok(Statement::Step {
+    Ok(CertificatePhrase::Step {
         name,
         value,
         by,
@@ -92,101 +66,17 @@ fn step(cursor: &mut Cursor<'_>, alloc: Global) -> Result<Statement, LineError>
 
 /// Reads `conflict` and a name, or a name and a value.
 #[tactic(auto, unfolding(palm_claim::specs::Reader::claim_at, palm_read::specs::Reader::Steps::and_then, palm_read::specs::Reader::Steps::when, palm_read::specs::Reader::Steps::choose))]
-fn claim(cursor: &mut Cursor<'_>, alloc: Global) -> Result<Statement, LineError>
-    ensures { Gives (λ statement. statement) result cursor.new (claim_at cursor.old) }
+fn claim(cursor: &mut Cursor<'_>, alloc: Global) -> Result<CertificatePhrase, LineError>
+    ensures { Gives (λ phrase. phrase) result cursor.new (claim_at cursor.old) }
 {
     let first = cursor.owned_name(alloc)?;
     let Some(second) = cursor.name() else {
         let value = read_value(cursor)?;
-        return Ok(Statement::ValueClaim { name: first, value });
+        return Ok(CertificatePhrase::ValueClaim { name: first, value });
     };
     if first.as_slice() != b"conflict".as_slice() {
         return Err(LineError::Form);
     }
     let name = Name::from_slice(alloc, second)?;
-    Ok(Statement::ConflictClaim(name))
-}
-
-/// Reads `from` and numbers of steps, if `from` stands in front.
-#[tactic(auto, unfolding(palm_claim::specs::Reader::reasons_at, palm_claim::specs::Reader::numbers_at, palm_read::specs::Reader::Steps::and_then, palm_read::specs::Reader::Steps::when, palm_read::specs::Reader::Steps::choose))]
-pub fn read_reasons(cursor: &mut Cursor<'_>, alloc: Global) -> Result<StepList, LineError>
-    ensures { Gives (λ numbers. numbers) result cursor.new (reasons_at cursor.old) }
-{
-    if !cursor.takes_word(b"from") {
-        return Ok(StepList::new(alloc));
-    }
-    let numbers = numbers(cursor, alloc)?;
-    if numbers.len() == 0 {
-        return Err(LineError::Form);
-    }
-    Ok(numbers)
-}
-
-/// Reads numbers of steps, as long as digits stand in front.
-fn numbers(cursor: &mut Cursor<'_>, alloc: Global) -> Result<StepList, LineError>
-    ensures { Gives (λ numbers. numbers) result cursor.new (many_at next_number cursor.old) }
-{
-    let mut numbers = StepList::new(alloc);
-    while let Some(number) = next_number(cursor)? {
-        numbers.push(number)?;
-    }
-    Ok(numbers)
-}
-
-/// Reads the number of a step, if digits stand in front.
-#[tactic(auto, unfolding(palm_claim::specs::Reader::next_number, palm_read::specs::Reader::Steps::when, palm_read::specs::Reader::Steps::choose))]
-fn next_number(cursor: &mut Cursor<'_>) -> Result<Option<u32>, LineError>
-    ensures { Gives (option_map (λ number. number)) result cursor.new (next_number cursor.old) }
-{
-    let Some(digits) = cursor.digits() else {
-        return Ok(None);
-    };
-    match step_number(digits) {
-        Some(number) => Ok(Some(number)),
-        None => Err(LineError::Form),
-    }
-}
-
-/// The number of the digits, where a step may have it.
-fn step_number(digits: &[u8]) -> Option<u32>
-    requires { AreDigits digits.now }
-    ensures some { IfSome result (λ number. number ≡ digits_number digits.now) }
-    ensures fits { IfSome result (λ number. is_step_number number ≡ true) }
-    ensures none { IfNone result (is_step_number (digits_number digits.now) ≡ false) }
-{
-    let number = read_int(digits)?;
-    match u32::try_from(number) {
-        Ok(number) if number >= 1 => Some(number),
-        _ => None,
-    }
-}
-
-/// Reads a value of the language.
-#[tactic(auto, unfolding(palm_claim::specs::Reader::value_at, palm_read::specs::Reader::Steps::integer_at, palm_read::specs::Reader::Steps::natural_at, palm_read::specs::Reader::Steps::and_then, palm_read::specs::Reader::Steps::when, palm_read::specs::Reader::Steps::choose))]
-pub fn read_value(cursor: &mut Cursor<'_>) -> Result<Value, LineError>
-    ensures { Gives (λ value. value) result cursor.new (value_at cursor.old) }
-{
-    let is_negative = cursor.takes_sign(b"-");
-    let Some(digits) = cursor.digits() else {
-        return Err(LineError::Form);
-    };
-    match value_of(is_negative, digits) {
-        Some(value) => Ok(value),
-        None => Err(LineError::Form),
-    }
-}
-
-/// The value of the digits, or below 0 with a sign, where the language has it.
-fn value_of(is_negative: bool, digits: &[u8]) -> Option<Value>
-    requires { AreDigits digits.now }
-    ensures some { IfSome result (λ value. value ≡ signed is_negative (digits_number digits.now)) }
-    ensures fits { IfSome result (λ value. is_value value ≡ true) }
-    ensures none { IfNone result (is_value (signed is_negative (digits_number digits.now)) ≡ false) }
-{
-    let number = read_int(digits)?;
-    if number > GREATEST_VALUE as i128 {
-        return None;
-    }
-    let size = number as i32;
-    Some(Value(if is_negative { -size } else { size }))
+    Ok(CertificatePhrase::ConflictClaim(name))
 }

@@ -4,6 +4,7 @@ pub mod Causes
 pub mod Explained
 pub mod Judged
 pub mod JudgedLines
+pub mod Listing
 pub mod Passing
 pub mod Phrases
 pub mod ProvedSteps

@@ -3,13 +3,14 @@ use Rattle.std.specs.Prelude.{◌≡◌, ℕ, ℤ, List, [], ◌∷◌, ◌++◌
 use Rattle.palm_base.specs.declared.terms.Pair.{Pair}
 use Rattle.palm_book.specs.Book.{Contents, with_listed}
 use Rattle.palm_book.specs.Book as in_book
-use Rattle.palm_book.specs.Named.{IsPair, IsVariable, Resolves}
+use Rattle.palm_book.specs.Named.{IsPair, IsVariable}
 use Rattle.palm_model.specs.declared.constraint.Con.{Con}
-use Rattle.palm_read.specs.Domain.{values_in}
-use Rattle.palm_claim.specs.declared.statement.Statement.{Statement}
-use Rattle.palm_claim.specs.declared.statement.Statement.TheVariants.{Comment, Header, Variable, Constraint, Step, ValueClaim, ConflictClaim, End}
+use Rattle.palm_claim.specs.declared.statement.CertificatePhrase.{CertificatePhrase}
+use Rattle.palm_claim.specs.declared.statement.CertificatePhrase.TheVariants.{Header, Step, ValueClaim, ConflictClaim, End}
 use Rattle.palm_claim.specs.declared.statement.Stage.{Stage}
 use Rattle.palm_claim.specs.declared.statement.Stage.TheVariants.{Unopened, Declaring, Listing, Proving, Claimed, Closed}
+use Rattle.palm_claim.specs.declared.statement.Statement.{Statement}
+use Rattle.palm_claim.specs.declared.statement.Statement.TheVariants.{Comment, Variable, Constraint, Phrase}
 use Rattle.palm_claim.specs.declared.verdict.Claim.{Claim}
 use Rattle.palm_claim.specs.declared.verdict.Claim.TheVariants.{Gone, Conflict}
 
@@ -32,18 +33,27 @@ IsOpen Listing = ⊤
 IsOpen Proving = ⊤
 IsOpen _ = ⊥
 
--- a line that says this may stand there: the header first, then variables, constraints, steps, the claim and the end
-abbrev pub MayStand : Stage → Statement → Type 0
+-- a constraint may stand there: behind the header and before the steps
+abbrev pub MayList : Stage → Type 0
+MayList Declaring = ⊤
+MayList Listing = ⊤
+MayList _ = ⊥
+
+-- the phrase may stand there: the header first, then steps and the claim behind what is listed, and the end
+abbrev pub MayFollow : Stage → CertificatePhrase → Type 0
+MayFollow stage Header = stage ≡ Unopened
+MayFollow stage (Step name value by reasons) = IsOpen stage
+MayFollow stage (ValueClaim name value) = IsOpen stage
+MayFollow stage (ConflictClaim name) = IsOpen stage
+MayFollow (Claimed claim) End = ⊤
+MayFollow stage End = ⊥
+
+-- so may a line that says this
+abbrev pub MayStand : Stage → Statement CertificatePhrase → Type 0
 MayStand stage Comment = ⊤
-MayStand stage Header = stage ≡ Unopened
 MayStand stage (Variable name domain) = stage ≡ Declaring
-MayStand Proving (Constraint name shape) = ⊥
-MayStand stage (Constraint name shape) = IsOpen stage
-MayStand stage (Step name value by reasons) = IsOpen stage
-MayStand stage (ValueClaim name value) = IsOpen stage
-MayStand stage (ConflictClaim name) = IsOpen stage
-MayStand (Claimed claim) End = ⊤
-MayStand stage End = ⊥
+MayStand stage (Constraint name shape) = MayList stage
+MayStand stage (Phrase phrase) = MayFollow stage phrase
 
 -- ---- what a line adds
 
@@ -59,12 +69,9 @@ with_step d pair = record d { stage = Proving; proved = d.proved ++ pair ∷ [] 
 abbrev pub at_stage : Draft → Stage → Draft
 at_stage d stage = record d { stage = stage }
 
--- the draft behind a line that says this
-abbrev pub Leads : Draft → Statement → Draft → Type 0
-Leads d Comment e = e ≡ d
+-- the draft behind the phrase
+abbrev pub Leads : Draft → CertificatePhrase → Draft → Type 0
 Leads d Header e = e ≡ at_stage d Declaring
-Leads d (Variable name domain) e = e ≡ with_variable d name (values_in domain)
-Leads d (Constraint name shape) e = (con : Con) × Resolves d.book.variables shape con × (e ≡ with_constraint d name con)
 Leads d (Step name value by reasons) e = (pair : Pair) × IsPair d.book.variables name value pair × (e ≡ with_step d pair)
 Leads d (ValueClaim name value) e = (pair : Pair) × IsPair d.book.variables name value pair × (e ≡ at_stage d (Claimed (Gone pair)))
 Leads d (ConflictClaim name) e = (x : ℕ) × IsVariable d.book.variables name x × (e ≡ at_stage d (Claimed (Conflict x)))

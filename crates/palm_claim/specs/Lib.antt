@@ -1,6 +1,8 @@
 pub mod Claim
 pub mod Draft
 pub mod Judging
+pub mod Own
+pub mod Phrases
 pub mod Reader
 pub mod Statement
 pub mod Step

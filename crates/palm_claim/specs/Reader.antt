@@ -4,22 +4,11 @@ use Rattle.std.specs.Str.{bytes_eq}
 use Rattle.palm_model.specs.declared.limits.TheConstants.{GREATEST_VALUE}
 use Rattle.palm_read.specs.Piece.{digits_number}
 use Rattle.palm_read.specs.Reader.Lists.{many_at}
-use Rattle.palm_read.specs.Reader.Steps.{Reading, ◌>>=◌, when, choose, is_empty, front_text, token_at, behind, keyword_at, mark_at, name_at, integer_at}
+use Rattle.palm_read.specs.Reader.Steps.{Reading, ◌>>=◌, when, choose, token_at, behind, keyword_at, mark_at, name_at, integer_at}
 use Rattle.palm_read.specs.Token.{Lexeme}
-use Rattle.palm_read.specs.declared.line.Line.{Line}
-use Rattle.palm_read.specs.declared.line.Line.TheVariants.{Comment as CommentLine, Var, Add}
-use Rattle.palm_read.specs.declared.tokens.TokenKind.TheVariants.{Word, Digits}
-use Rattle.palm_claim.specs.declared.statement.Statement.{Statement}
-use Rattle.palm_claim.specs.declared.statement.Statement.TheVariants.{Comment, Header, Variable, Constraint, Step, ValueClaim, ConflictClaim, End}
-
--- ---- lines of a session
-
--- what a line of a session says in a certificate, if anything
-abbrev pub of_line : Line → Option Statement
-of_line CommentLine = Some Comment
-of_line (Var name domain) = Some (Variable name domain)
-of_line (Add name shape) = Some (Constraint name shape)
-of_line _ = None
+use Rattle.palm_read.specs.declared.tokens.TokenKind.TheVariants.{Digits}
+use Rattle.palm_claim.specs.declared.statement.CertificatePhrase.{CertificatePhrase}
+use Rattle.palm_claim.specs.declared.statement.CertificatePhrase.TheVariants.{Header, Step, ValueClaim, ConflictClaim, End}
 
 -- ---- numbers in their ranges
 
@@ -56,7 +45,7 @@ numbers_at tokens = do
 unfoldable pub reasons_at : List Lexeme → Reading (List ℕ)
 reasons_at tokens = when (keyword_at (codes "from") tokens) numbers_at (Some ([], tokens))
 
-unfoldable pub step_at : List Lexeme → Reading Statement
+unfoldable pub step_at : List Lexeme → Reading CertificatePhrase
 step_at tokens = do
   name ← name_at tokens
   value ← value_at name.1
@@ -66,7 +55,7 @@ step_at tokens = do
   Some (Step name.0 value.0 by.0 reasons.0, reasons.1)
 
 -- `conflict` and a name, or a name and a value
-unfoldable pub claim_at : List Lexeme → Reading Statement
+unfoldable pub claim_at : List Lexeme → Reading CertificatePhrase
 claim_at tokens = do
   name ← name_at tokens
   when (name_at name.1)
@@ -75,7 +64,7 @@ claim_at tokens = do
         value ← value_at name.1
         Some (ValueClaim name.0 value.0, value.1))
 
-unfoldable pub header_at : List Lexeme → Reading Statement
+unfoldable pub header_at : List Lexeme → Reading CertificatePhrase
 header_at tokens = do
   first ← keyword_at (codes "palm") tokens
   second ← mark_at (codes "-") first
@@ -83,29 +72,13 @@ header_at tokens = do
   rest ← behind Digits (codes "1") third
   Some (Header, rest)
 
-unfoldable pub phrase_at : List Lexeme → Reading Statement
+unfoldable pub phrase_at : List Lexeme → Reading CertificatePhrase
 phrase_at tokens =
     when (keyword_at (codes "step") tokens) step_at
     (when (keyword_at (codes "claim") tokens) claim_at
     (when (keyword_at (codes "end") tokens) (λ rest. Some (End, rest))
     (header_at tokens)))
 
--- the form of all tokens of a line
-unfoldable pub phrase_of : List Lexeme → Option Statement
-phrase_of tokens = do
-  phrase ← phrase_at tokens
-  choose (is_empty phrase.1) (Some phrase.0) None
-
--- ---- the first word
-
 -- the first words of these forms
 abbrev pub is_lead : List ℕ → Bool
 is_lead w = bytes_eq w (codes "step") || (bytes_eq w (codes "claim") || (bytes_eq w (codes "end") || bytes_eq w (codes "palm")))
-
-abbrev pub is_some_lead : Option (List ℕ) → Bool
-is_some_lead None = false
-is_some_lead (Some w) = is_lead w
-
--- the token in front is one of them
-unfoldable pub begins_phrase : List Lexeme → Bool
-begins_phrase tokens = is_some_lead (front_text Word tokens)

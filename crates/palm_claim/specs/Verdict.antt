@@ -1,67 +1,58 @@
 -- The verdict on a text: the first line that has a cause, with its first cause, or that it is accepted.
-use Rattle.std.specs.Prelude.{ℕ, ◌<◌, ◌≤◌, ◌⊎◌, List, length, Any}
+use Rattle.std.specs.Prelude.{ℕ, ◌<◌, ◌⊎◌, List, length, Any}
 use Rattle.palm_base.specs.declared.terms.Pair.{Pair}
 use Rattle.palm_book.specs.Book.{Contents, HasConstraint, HasVariable}
-use Rattle.palm_book.specs.Named.{IsDeclared, IsPair, IsUnknownName, IsVariable}
-use Rattle.palm_book.specs.declared.limits.TheConstants.{MOST_VARIABLES, MOST_CONSTRAINTS}
-use Rattle.palm_read.specs.Limits.{IsBeyond, names_of}
-use Rattle.palm_read.specs.declared.line.Line.TheVariants.{Var, Add}
+use Rattle.palm_book.specs.Named.{IsDeclared, IsPair, IsVariable}
 use Rattle.palm_claim.specs.Draft.{Draft, Leads, MayStand, blank}
 use Rattle.palm_claim.specs.Judging.{Family, IsVerdictFrom}
-use Rattle.palm_claim.specs.Statement.{Says}
+use Rattle.palm_claim.specs.Own as of_texts
+use Rattle.palm_claim.specs.Own.{Own, family_of}
+use Rattle.palm_claim.specs.Statement.{phrases}
 use Rattle.palm_claim.specs.Step.{IsReached, IsRightBy, nothing}
 use Rattle.palm_claim.specs.declared.ground.Ground.TheVariants.{By}
-use Rattle.palm_claim.specs.declared.statement.Statement.{Statement}
-use Rattle.palm_claim.specs.declared.statement.Statement.TheVariants.{Variable, Constraint, Step, ValueClaim, ConflictClaim}
+use Rattle.palm_claim.specs.declared.statement.CertificatePhrase.{CertificatePhrase}
+use Rattle.palm_claim.specs.declared.statement.CertificatePhrase.TheVariants.{Step, ValueClaim, ConflictClaim}
 use Rattle.palm_claim.specs.declared.statement.Stage.{Stage}
-use Rattle.palm_claim.specs.declared.statement.Stage.TheVariants.{Closed}
+use Rattle.palm_claim.specs.declared.statement.Stage.TheVariants.{Closed, Listing}
+use Rattle.palm_claim.specs.declared.statement.Statement.{Statement}
 use Rattle.palm_claim.specs.declared.verdict.Claim.TheVariants.{Gone, Conflict}
 use Rattle.palm_claim.specs.declared.verdict.Cause.{Cause}
-use Rattle.palm_claim.specs.declared.verdict.Cause.TheVariants.{Malformed, Misdeclared, Beyond, Unproved, NotRight, NotReached}
+use Rattle.palm_claim.specs.declared.verdict.Cause.TheVariants.{Misdeclared, Unproved, NotRight, NotReached}
 use Rattle.palm_claim.specs.declared.verdict.Verdict.{Verdict}
 use Rattle.palm_claim.specs.declared.verdict.Verdict.TheVariants.{Accepted, Refused}
 
--- ---- the causes of a line that says something
+-- ---- the causes of a phrase
 
--- a name or a value is not declared, or a name is declared a second time among its like
-abbrev pub IsMisdeclared : Draft → Statement → Type 0
-IsMisdeclared d (Variable name domain) = HasVariable d.book name
-IsMisdeclared d (Constraint name shape) = HasConstraint d.book name ⊎ Any (IsUnknownName d.book.variables) (names_of shape)
+-- a name or a value is not declared
+abbrev pub IsMisdeclared : Draft → CertificatePhrase → Type 0
 IsMisdeclared d (Step name value by reasons) = (IsDeclared d.book.variables name value → ⊥) ⊎ (HasConstraint d.book by → ⊥)
 IsMisdeclared d (ValueClaim name value) = IsDeclared d.book.variables name value → ⊥
 IsMisdeclared d (ConflictClaim name) = HasVariable d.book name → ⊥
 IsMisdeclared d _ = ⊥
 
--- a limit on how many there may be is broken, the certificate's own variables and constraints counted
-abbrev pub IsBeyondLimits : Draft → Statement → Type 0
-IsBeyondLimits d (Variable name domain) = IsBeyond (Var name domain) ⊎ (MOST_VARIABLES ≤ length d.book.variables)
-IsBeyondLimits d (Constraint name shape) = IsBeyond (Add name shape) ⊎ (MOST_CONSTRAINTS ≤ length d.book.constraints)
-IsBeyondLimits d _ = ⊥
-
 -- a reason's number is not below the step's own
-abbrev pub HasUnproved : Draft → Statement → Type 0
+abbrev pub HasUnproved : Draft → CertificatePhrase → Type 0
 HasUnproved d (Step name value by reasons) = Any (λ k. length d.proved < k) reasons
 HasUnproved d _ = ⊥
 
 -- the step is not right
-abbrev pub IsNotRight : Draft → Statement → Type 0
+abbrev pub IsNotRight : Draft → CertificatePhrase → Type 0
 IsNotRight d (Step name value by reasons) = (pair : Pair) × IsPair d.book.variables name value pair × (IsRightBy d.book nothing d.proved pair (By by reasons) → ⊥)
 IsNotRight d _ = ⊥
 
 -- the claim is not reached
-abbrev pub IsNotReached : Draft → Statement → Type 0
+abbrev pub IsNotReached : Draft → CertificatePhrase → Type 0
 IsNotReached d (ValueClaim name value) = (pair : Pair) × IsPair d.book.variables name value pair × (IsReached d.book d.proved (Gone pair) → ⊥)
 IsNotReached d (ConflictClaim name) = (x : ℕ) × IsVariable d.book.variables name x × (IsReached d.book d.proved (Conflict x) → ⊥)
 IsNotReached d _ = ⊥
 
--- the condition of a cause
-abbrev pub Meets : Draft → Statement → Cause → Type 0
-Meets d statement Malformed = MayStand d.stage statement → ⊥
-Meets d statement Misdeclared = IsMisdeclared d statement
-Meets d statement Beyond = IsBeyondLimits d statement
-Meets d statement Unproved = HasUnproved d statement
-Meets d statement NotRight = IsNotRight d statement
-Meets d statement NotReached = IsNotReached d statement
+-- the condition of a cause, other than that it may not stand there
+abbrev pub MeetsPhrase : Draft → CertificatePhrase → Cause → Type 0
+MeetsPhrase d phrase Misdeclared = IsMisdeclared d phrase
+MeetsPhrase d phrase Unproved = HasUnproved d phrase
+MeetsPhrase d phrase NotRight = IsNotRight d phrase
+MeetsPhrase d phrase NotReached = IsNotReached d phrase
+MeetsPhrase d phrase _ = ⊥
 
 -- ---- the text
 
@@ -70,9 +61,27 @@ abbrev pub ending : Stage → Contents → ℕ → Verdict
 ending (Closed claim) book n = Accepted (record { claim = claim; book = book })
 ending stage book n = Refused n NotReached
 
+-- what is the own of certificates among all such texts
+abbrev pub of_certificates : Own Draft CertificatePhrase Verdict
+of_certificates = record {
+  phrases = phrases;
+  book = λ d. d.book;
+  MayStand = λ d statement. MayStand d.stage statement;
+  declared = λ d book. record d { book = book };
+  listed = λ d book. record d { stage = Listing; book = book };
+  MeetsPhrase = MeetsPhrase;
+  LeadsPhrase = Leads;
+  ending = λ d n. ending d.stage d.book n;
+  refused = λ n cause. Refused n cause;
+}
+
 -- certificates
-abbrev pub certificates : Family Draft Statement Verdict
-certificates = record { Says = Says; Meets = Meets; Leads = Leads; ending = λ d n. ending d.stage d.book n; refused = λ n cause. Refused n cause }
+abbrev pub certificates : Family Draft (Statement CertificatePhrase) Verdict
+certificates = family_of of_certificates
+
+-- the condition of a cause, of what a line says
+abbrev pub Meets : Draft → Statement CertificatePhrase → Cause → Type 0
+Meets d statement cause = of_texts.Meets of_certificates d statement cause
 
 -- the verdict on a text
 abbrev pub IsVerdict : List ℕ → Verdict → Type 0

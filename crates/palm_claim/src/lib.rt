@@ -13,5 +13,5 @@ pub use laws::{
     accepted_claims_are_explained, accepted_claims_hold_of_the_greatest_domains,
     each_text_has_a_verdict, no_text_has_two_verdicts,
 };
-pub use statement::{Stage, Statement};
+pub use statement::{CertificatePhrase, Stage, Statement};
 pub use verdict::{Cause, Claim, Proved, Verdict};

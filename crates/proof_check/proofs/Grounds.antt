@@ -13,7 +13,8 @@ use Rattle.proof_text.specs.Draft.{Draft, Notes, given_in, with_step}
 use Rattle.proof_text.specs.Verdict.{IsMisdeclared, IsUnknownGround, IsUnprovedGround, Meets}
 use Rattle.proof_text.specs.declared.lemma.Lemma.{Lemma}
 use Rattle.proof_text.specs.declared.statement.Stage.TheVariants.{Reasoning}
-use Rattle.proof_text.specs.declared.statement.Statement.TheVariants.{Step}
+use Rattle.palm_claim.specs.declared.statement.Statement.TheVariants.{Phrase}
+use Rattle.proof_text.specs.declared.statement.ProofPhrase.TheVariants.{Step}
 use Rattle.proof_check.specs.Kept.{TakesGround}
 
 module _ (d : Draft) (pair : Pair) (basis : Ground) (stands : d.stage ≡ Reasoning) (has : Has (initial_of d.book) pair.var pair.value) (known : IsUnknownGround d basis → ⊥) where
@@ -21,15 +22,15 @@ module _ (d : Draft) (pair : Pair) (basis : Ground) (stands : d.stage ≡ Reason
   declared name value is m = elim m [ inl h ↦ h (pair_declared d.book name value pair is has) | inr h ↦ known h ]
 
   pub takes_unproved : (e : Draft) → IsUnprovedGround d basis → TakesGround d pair basis (Some Unproved) e
-  takes_unproved e late name value is = first_unproved (Meets d (Step name value basis)) (λ n. n stands) (declared name value is) (λ h. h) late
+  takes_unproved e late name value is = first_unproved (Meets d (Phrase (Step name value basis))) (λ n. n stands) (declared name value is) (λ h. h) late
 
   module _ (early : IsUnprovedGround d basis → ⊥) where
     pub takes_not_right : (e : Draft) → (IsRightBy d.book (given_in d) d.proved pair basis → ⊥) → TakesGround d pair basis (Some NotRight) e
-    takes_not_right e wrong name value is = first_not_right (Meets d (Step name value basis)) (λ n. n stands) (declared name value is) (λ h. h) early (pair, is, wrong)
+    takes_not_right e wrong name value is = first_not_right (Meets d (Phrase (Step name value basis))) (λ n. n stands) (declared name value is) (λ h. h) early (pair, is, wrong)
 
     pub takes_right : (e : Draft) (lemma : Lemma) → Apart d.book.variables → IsRightBy d.book (given_in d) d.proved pair basis → Notes d basis lemma → e ≡ with_step d pair lemma → TakesGround d pair basis None e
     takes_right e lemma apart right notes is_step name value is = (
-      without_cause (Meets d (Step name value basis)) (λ n. n stands) (declared name value is) (λ h. h) early
+      without_cause (Meets d (Phrase (Step name value basis))) (λ n. n stands) (declared name value is) (λ h. h) early
           (λ w. w.2 (subst (λ (q : Pair). IsRightBy d.book (given_in d) d.proved q basis) (pair_is d.book.variables name value pair w.0 apart is w.1) right))
           (λ h. h),
       (pair, lemma, is, notes, is_step),

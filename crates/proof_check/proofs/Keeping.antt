@@ -1,4 +1,4 @@
--- What the checker keeps stays so: more that is listed, a lemma begun, a pair assumed, a step, and a lemma that is done.
+-- What is kept of a proof stays so: more that is listed, a lemma begun, a pair assumed, a step, and a lemma that is done.
 use Rattle.std.proofs.Common.{◌≡◌, ℕ, zero, suc, ℤ, ◌+◌, ◌<◌, ◌≤◌, Option, Some, None, List, [], ◌∷◌, ◌++◌, length, All, ◌⊎◌, inl, inr, refl, sym, ap, ◌∙◌, subst, arith}
 use Rattle.std.specs.Prelude.{slice_get}
 use Rattle.std.proofs.lemmas.List.{length_push}
@@ -7,13 +7,11 @@ use Rattle.std.proofs.lemmas.Option.{none-some, same_Some}
 use Rattle.palm_base.specs.declared.terms.Pair.{Pair}
 use Rattle.palm_book.specs.Book.{BookVar, Contents, initial_of, listed, with_listed, with_variable}
 use Rattle.palm_claim.proofs.cited.ProvedSteps.{still_declared}
-use Rattle.palm_listed.specs.Lists.{IsListed}
-use Rattle.palm_listed.specs.declared.listed.Listed.{Listed}
 use Rattle.palm_model.specs.Domains.{Has}
 use Rattle.palm_model.specs.declared.constraint.Con.{Con}
 use Rattle.proof_text.specs.Draft.{unproved}
 use Rattle.proof_text.specs.declared.lemma.Lemma.{Lemma}
-use Rattle.proof_check.specs.Kept.{AreAssumed, AreBehind, AreKept, Forgets, IsBehind, Puts, assumed_at, noting_constraint, noting_lemma}
+use Rattle.proof_check.specs.Kept.{AreAssumed, AreBehind, AreReasoned, Forgets, IsBehind, Puts, assumed_at, noting_constraint, noting_lemma}
 use Rattle.proof_check.proofs.Assuming.{assumed_more, forgotten, none_assumed, still_assumed}
 
 -- ---- lemmas before a lemma
@@ -49,11 +47,10 @@ behind_push room lemmas l are b = record {
 
 -- ---- what else is listed
 
-module _ (before after : Listed) (lemmas : List Lemma) (begun : Lemma) (assumed : List (Option ℤ)) (proved : List Pair) (kept : AreKept before lemmas begun assumed proved) (lists : IsListed after) where
+module _ (before after : Contents) (lemmas : List Lemma) (begun : Lemma) (assumed : List (Option ℤ)) (proved : List Pair) (kept : AreReasoned before lemmas begun assumed proved) where
   -- the same book is listed
-  pub keeps_book : after.book ≡ before.book → AreKept after lemmas begun assumed proved
+  pub keeps_book : after ≡ before → AreReasoned after lemmas begun assumed proved
   keeps_book same = record {
-    lists = lists;
     declared = subst (λ (b : Contents). All (λ (p : Pair). Has (initial_of b) p.var p.value) proved) (sym same) kept.declared;
     long = subst (λ (b : Contents). length assumed ≡ length b.variables) (sym same) kept.long;
     assumes = kept.assumes;
@@ -61,28 +58,26 @@ module _ (before after : Listed) (lemmas : List Lemma) (begun : Lemma) (assumed 
     last = subst (λ (b : Contents). IsBehind (length b.constraints + 1) (length lemmas) begun) (sym same) kept.last;
   }
 
-  pub keeps_variable : (name : List ℕ) (vs : List ℤ) (more : List (Option ℤ)) → after.book ≡ with_variable before.book name vs → more ≡ assumed ++ None ∷ [] → AreKept after lemmas begun more proved
+  pub keeps_variable : (name : List ℕ) (vs : List ℤ) (more : List (Option ℤ)) → after ≡ with_variable before name vs → more ≡ assumed ++ None ∷ [] → AreReasoned after lemmas begun more proved
   keeps_variable name vs more same grown =
       let entry : BookVar = record { name = name; values = vs } in
-      let long : length more ≡ length (before.book.variables ++ entry ∷ []) =
-      ap (λ (xs : List (Option ℤ)). length xs) grown ∙ length_push assumed None ∙ ap (λ (n : ℕ). n + 1) kept.long ∙ sym (length_push before.book.variables entry) in
+      let long : length more ≡ length (before.variables ++ entry ∷ []) =
+      ap (λ (xs : List (Option ℤ)). length xs) grown ∙ length_push assumed None ∙ ap (λ (n : ℕ). n + 1) kept.long ∙ sym (length_push before.variables entry) in
       record {
-        lists = lists;
-        declared = subst (λ (b : Contents). All (λ (p : Pair). Has (initial_of b) p.var p.value) proved) (sym same) (still_declared before.book name vs proved kept.declared);
+        declared = subst (λ (b : Contents). All (λ (p : Pair). Has (initial_of b) p.var p.value) proved) (sym same) (still_declared before name vs proved kept.declared);
         long = subst (λ (b : Contents). length more ≡ length b.variables) (sym same) long;
         assumes = subst (λ (xs : List (Option ℤ)). AreAssumed begun.pairs xs) (sym grown) (still_assumed begun.pairs assumed kept.assumes);
         behind = subst (λ (b : Contents). AreBehind (length b.constraints + 1) lemmas) (sym same) kept.behind;
         last = subst (λ (b : Contents). IsBehind (length b.constraints + 1) (length lemmas) begun) (sym same) kept.last;
       }
 
-  pub keeps_constraint : (name : List ℕ) (con : Con) → after.book ≡ with_listed before.book name con → AreKept after lemmas begun assumed proved
+  pub keeps_constraint : (name : List ℕ) (con : Con) → after ≡ with_listed before name con → AreReasoned after lemmas begun assumed proved
   keeps_constraint name con same =
-      let longer : length (before.book.constraints ++ listed before.book name con ∷ []) ≡ length before.book.constraints + 1 = length_push before.book.constraints (listed before.book name con) in
-      let room = length before.book.constraints + 1 in
-      let more = length (before.book.constraints ++ listed before.book name con ∷ []) + 1 in
+      let longer : length (before.constraints ++ listed before name con ∷ []) ≡ length before.constraints + 1 = length_push before.constraints (listed before name con) in
+      let room = length before.constraints + 1 in
+      let more = length (before.constraints ++ listed before name con ∷ []) + 1 in
       let le : room ≤ more = omega (arith, longer) in
       record {
-        lists = lists;
         declared = subst (λ (b : Contents). All (λ (p : Pair). Has (initial_of b) p.var p.value) proved) (sym same) kept.declared;
         long = subst (λ (b : Contents). length assumed ≡ length b.variables) (sym same) kept.long;
         assumes = kept.assumes;
@@ -92,76 +87,71 @@ module _ (before after : Listed) (lemmas : List Lemma) (begun : Lemma) (assumed 
 
 -- ---- lemmas
 
-pub nothing_kept : (listed : Listed) (begun : Lemma) → IsListed listed → listed.book ≡ record { variables = []; constraints = [] } → begun ≡ unproved [] → AreKept listed [] begun [] []
-nothing_kept listed begun lists blank none = record {
-  lists = lists;
-  declared = All-nil (λ (p : Pair). Has (initial_of listed.book) p.var p.value);
+pub nothing_kept : (book : Contents) (begun : Lemma) → book ≡ record { variables = []; constraints = [] } → begun ≡ unproved [] → AreReasoned book [] begun [] []
+nothing_kept book begun blank none = record {
+  declared = All-nil (λ (p : Pair). Has (initial_of book) p.var p.value);
   long = subst (λ (b : Contents). 0 ≡ length b.variables) (sym blank) refl;
   assumes = subst (λ (l : Lemma). AreAssumed l.pairs []) (sym none) none_assumed;
   behind = record { each = λ place l at. absurd (none-some l at) };
-  last = subst (λ (l : Lemma). IsBehind (length listed.book.constraints + 1) 0 l) (sym none) (nothing_behind (length listed.book.constraints + 1) 0 []);
+  last = subst (λ (l : Lemma). IsBehind (length book.constraints + 1) 0 l) (sym none) (nothing_behind (length book.constraints + 1) 0 []);
 }
 
-module _ (listed : Listed) (lemmas : List Lemma) (begun : Lemma) (assumed : List (Option ℤ)) (proved : List Pair) (kept : AreKept listed lemmas begun assumed proved) where
+module _ (book : Contents) (lemmas : List Lemma) (begun : Lemma) (assumed : List (Option ℤ)) (proved : List Pair) (kept : AreReasoned book lemmas begun assumed proved) where
   -- a lemma begins that assumes nothing
-  pub keeps_cleared : (new : Lemma) (after : List (Option ℤ)) (none : List Pair) → Forgets assumed after begun.pairs → new ≡ unproved [] → none ≡ [] → AreKept listed lemmas new after none
+  pub keeps_cleared : (new : Lemma) (after : List (Option ℤ)) (none : List Pair) → Forgets assumed after begun.pairs → new ≡ unproved [] → none ≡ [] → AreReasoned book lemmas new after none
   keeps_cleared new after none forgets fresh empty = record {
-    lists = kept.lists;
-    declared = subst (λ (ps : List Pair). All (λ (p : Pair). Has (initial_of listed.book) p.var p.value) ps) (sym empty) (All-nil (λ (p : Pair). Has (initial_of listed.book) p.var p.value));
+    declared = subst (λ (ps : List Pair). All (λ (p : Pair). Has (initial_of book) p.var p.value) ps) (sym empty) (All-nil (λ (p : Pair). Has (initial_of book) p.var p.value));
     long = forgets.long ∙ kept.long;
     assumes = subst (λ (l : Lemma). AreAssumed l.pairs after) (sym fresh) (forgotten begun.pairs assumed after kept.assumes forgets);
     behind = kept.behind;
-    last = subst (λ (l : Lemma). IsBehind (length listed.book.constraints + 1) (length lemmas) l) (sym fresh) (nothing_behind (length listed.book.constraints + 1) (length lemmas) []);
+    last = subst (λ (l : Lemma). IsBehind (length book.constraints + 1) (length lemmas) l) (sym fresh) (nothing_behind (length book.constraints + 1) (length lemmas) []);
   }
 
   -- one more pair is assumed
   pub keeps_assumed : (more : Lemma) (after : List (Option ℤ)) (pair : Pair) → assumed_at assumed pair.var ≡ None → Puts assumed after pair.var (Some pair.value) → more ≡ record begun { pairs = begun.pairs ++ pair ∷ [] }
-      → AreKept listed lemmas more after proved
+      → AreReasoned book lemmas more after proved
   keeps_assumed more after pair none puts grown = record {
-    lists = kept.lists;
     declared = kept.declared;
     long = puts.long ∙ kept.long;
     assumes = subst (λ (l : Lemma). AreAssumed l.pairs after) (sym grown) (assumed_more begun.pairs assumed after pair kept.assumes none puts);
     behind = kept.behind;
-    last = subst (λ (l : Lemma). IsBehind (length listed.book.constraints + 1) (length lemmas) l) (sym grown) (record { constraints = kept.last.constraints; lemmas = kept.last.lemmas });
+    last = subst (λ (l : Lemma). IsBehind (length book.constraints + 1) (length lemmas) l) (sym grown) (record { constraints = kept.last.constraints; lemmas = kept.last.lemmas });
   }
 
-  keeps_step : (more : Lemma) (pair : Pair) (after : List Pair) → Has (initial_of listed.book) pair.var pair.value → after ≡ proved ++ pair ∷ [] → AreAssumed more.pairs assumed
-      → IsBehind (length listed.book.constraints + 1) (length lemmas) more → AreKept listed lemmas more assumed after
+  keeps_step : (more : Lemma) (pair : Pair) (after : List Pair) → Has (initial_of book) pair.var pair.value → after ≡ proved ++ pair ∷ [] → AreAssumed more.pairs assumed
+      → IsBehind (length book.constraints + 1) (length lemmas) more → AreReasoned book lemmas more assumed after
   keeps_step more pair after has grown assumes last = record {
-    lists = kept.lists;
-    declared = subst (λ (ps : List Pair). All (λ (p : Pair). Has (initial_of listed.book) p.var p.value) ps) (sym grown) (All-push (λ (p : Pair). Has (initial_of listed.book) p.var p.value) proved pair kept.declared has);
+    declared = subst (λ (ps : List Pair). All (λ (p : Pair). Has (initial_of book) p.var p.value) ps) (sym grown) (All-push (λ (p : Pair). Has (initial_of book) p.var p.value) proved pair kept.declared has);
     long = kept.long;
     assumes = assumes;
     behind = kept.behind;
     last = last;
   }
 
-  pub keeps_step_assumed : (pair : Pair) (after : List Pair) → Has (initial_of listed.book) pair.var pair.value → after ≡ proved ++ pair ∷ [] → AreKept listed lemmas begun assumed after
+  pub keeps_step_assumed : (pair : Pair) (after : List Pair) → Has (initial_of book) pair.var pair.value → after ≡ proved ++ pair ∷ [] → AreReasoned book lemmas begun assumed after
   keeps_step_assumed pair after has grown = keeps_step begun pair after has grown kept.assumes kept.last
 
-  pub keeps_step_by : (more : Lemma) (pair : Pair) (after : List Pair) (n : ℕ) → Has (initial_of listed.book) pair.var pair.value → after ≡ proved ++ pair ∷ [] → more ≡ noting_constraint begun n
-      → n < length listed.book.constraints + 1 → AreKept listed lemmas more assumed after
+  pub keeps_step_by : (more : Lemma) (pair : Pair) (after : List Pair) (n : ℕ) → Has (initial_of book) pair.var pair.value → after ≡ proved ++ pair ∷ [] → more ≡ noting_constraint begun n
+      → n < length book.constraints + 1 → AreReasoned book lemmas more assumed after
   keeps_step_by more pair after n has grown noted lt =
       keeps_step more pair after has grown (subst (λ (l : Lemma). AreAssumed l.pairs assumed) (sym noted) kept.assumes)
-      (subst (λ (l : Lemma). IsBehind (length listed.book.constraints + 1) (length lemmas) l) (sym noted) (noted_constraint (length listed.book.constraints + 1) (length lemmas) begun n kept.last lt))
+      (subst (λ (l : Lemma). IsBehind (length book.constraints + 1) (length lemmas) l) (sym noted) (noted_constraint (length book.constraints + 1) (length lemmas) begun n kept.last lt))
 
-  pub keeps_step_of_lemma : (more : Lemma) (pair : Pair) (after : List Pair) (k : ℕ) → Has (initial_of listed.book) pair.var pair.value → after ≡ proved ++ pair ∷ [] → more ≡ noting_lemma begun k
-      → (1 ≤ k) × (k ≤ length lemmas) → AreKept listed lemmas more assumed after
+  pub keeps_step_of_lemma : (more : Lemma) (pair : Pair) (after : List Pair) (k : ℕ) → Has (initial_of book) pair.var pair.value → after ≡ proved ++ pair ∷ [] → more ≡ noting_lemma begun k
+      → (1 ≤ k) × (k ≤ length lemmas) → AreReasoned book lemmas more assumed after
   keeps_step_of_lemma more pair after k has grown noted early =
       keeps_step more pair after has grown (subst (λ (l : Lemma). AreAssumed l.pairs assumed) (sym noted) kept.assumes)
-      (subst (λ (l : Lemma). IsBehind (length listed.book.constraints + 1) (length lemmas) l) (sym noted) (noted_lemma (length listed.book.constraints + 1) (length lemmas) begun k kept.last early))
+      (subst (λ (l : Lemma). IsBehind (length book.constraints + 1) (length lemmas) l) (sym noted) (noted_lemma (length book.constraints + 1) (length lemmas) begun k kept.last early))
 
   -- the lemma begun is done
-  pub keeps_lemma : (more : List Lemma) → more ≡ lemmas ++ begun ∷ [] → AreKept listed more begun assumed proved
+  pub keeps_lemma : (more : List Lemma) → more ≡ lemmas ++ begun ∷ [] → AreReasoned book more begun assumed proved
   keeps_lemma more grown =
       let longer : length more ≡ length lemmas + 1 = ap (λ (ls : List Lemma). length ls) grown ∙ length_push lemmas begun in
       record {
-        lists = kept.lists;
         declared = kept.declared;
         long = kept.long;
         assumes = kept.assumes;
-        behind = subst (λ (ls : List Lemma). AreBehind (length listed.book.constraints + 1) ls) (sym grown) (behind_push (length listed.book.constraints + 1) lemmas begun kept.behind kept.last);
+        behind = subst (λ (ls : List Lemma). AreBehind (length book.constraints + 1) ls) (sym grown) (behind_push (length book.constraints + 1) lemmas begun kept.behind kept.last);
         last = record {
           constraints = kept.last.constraints;
           lemmas = All-weaker (λ k. (1 ≤ k) × (k ≤ length lemmas)) (λ k. (1 ≤ k) × (k ≤ length more))

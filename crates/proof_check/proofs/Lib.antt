@@ -4,5 +4,4 @@ pub mod Keeping
 pub mod Marking
 pub mod PairsNamed
 pub mod Picking
-pub mod Reading
 pub mod UsersTold

@@ -11,11 +11,12 @@ use Rattle.palm_book.proofs.cited.Any.{any_member, member_any}
 use Rattle.palm_book.proofs.cited.Pairs.{Apart, pair_declared, variable_is}
 use Rattle.palm_claim.specs.declared.verdict.Cause.TheVariants.{Misdeclared}
 use Rattle.palm_claim.proofs.cited.Causes.{first_misdeclared, without_cause}
-use Rattle.proof_text.specs.Draft.{ArePairs, Draft, MayStand, with_lemma}
+use Rattle.proof_text.specs.Draft.{ArePairs, Draft, MayFollow, with_lemma}
 use Rattle.proof_text.specs.Verdict.{AreApart, IsMisdeclared, Meets}
 use Rattle.proof_text.specs.declared.statement.NamedPair.{NamedPair}
-use Rattle.proof_text.specs.declared.statement.Statement.TheVariants.{Lemma}
-use Rattle.proof_check.specs.Kept.{AssumesOrNot, TakesStatement}
+use Rattle.palm_claim.specs.declared.statement.Statement.TheVariants.{Phrase}
+use Rattle.proof_text.specs.declared.statement.ProofPhrase.TheVariants.{Lemma}
+use Rattle.proof_check.specs.Kept.{AssumesOrNot, TakesPhrase}
 use Rattle.proof_check.proofs.Assuming.{take_next}
 
 -- ---- pairs by name
@@ -101,15 +102,15 @@ module _ (d : Draft) (named : List NamedPair) (i : ℕ) (now e : Draft) (begins 
             inr (apart_break named i n p.0 at p.1 (sym p.2.variable.named ∙ ap (λ (x : ℕ). name_of d.book.variables x) twice.4 ∙ twice.2.variable.named))
       ]
 
-  pub begins_not : MayStand d.stage (Lemma named) → AssumesOrNot now n.name n.value false e → TakesStatement d (Lemma named) (Some Misdeclared) e
-  begins_not stands assumes = first_misdeclared (Meets d (Lemma named)) (λ s. s stands) (misdeclared assumes)
+  pub begins_not : MayFollow d.stage (Lemma named) → AssumesOrNot now n.name n.value false e → TakesPhrase d (Lemma named) (Some Misdeclared) e
+  begins_not stands assumes = first_misdeclared (Meets d (Phrase (Lemma named))) (λ s. s stands) (misdeclared assumes)
 
-pub begun : (d : Draft) (named : List NamedPair) (i : ℕ) (e : Draft) → Begins d named i e → length named ≤ i → MayStand d.stage (Lemma named) → TakesStatement d (Lemma named) None e
+pub begun : (d : Draft) (named : List NamedPair) (i : ℕ) (e : Draft) → Begins d named i e → length named ≤ i → MayFollow d.stage (Lemma named) → TakesPhrase d (Lemma named) None e
 begun d named i e begins over stands =
     let all : take i named ≡ named = take_all i named over in
     let declared = subst (λ (ns : List NamedPair). All (λ (p : NamedPair). IsDeclared d.book.variables p.name p.value) ns) all begins.declared in
     let apart = subst (λ (ns : List NamedPair). AreApart ns) all begins.apart in (
-      without_cause (Meets d (Lemma named)) (λ s. s stands)
+      without_cause (Meets d (Phrase (Lemma named))) (λ s. s stands)
           (λ m. elim m [
             | inl some ↦
                 let u = member_any (λ (p : NamedPair). IsDeclared d.book.variables p.name p.value → ⊥) named some in

@@ -1,24 +1,25 @@
--- What the checker keeps of a proof, and what it answers to a line.
+-- What is kept of a proof besides what it lists, and what is answered to a phrase.
 use Rattle.std.specs.Prelude.{◌≡◌, ℕ, ℤ, ◌+◌, ◌<◌, ◌≤◌, ◌⊎◌, Bool, true, false, Option, Some, None, List, [], ◌∷◌, ◌++◌, length, All, Contains, slice_get, slice_index_or}
 use Rattle.palm_base.specs.declared.terms.Pair.{Pair}
-use Rattle.palm_book.specs.Book.{initial_of}
+use Rattle.palm_book.specs.Book.{Contents, initial_of}
 use Rattle.palm_book.specs.Named.{IsDeclared, IsPair}
-use Rattle.palm_listed.specs.Lists.{IsListed}
-use Rattle.palm_listed.specs.declared.listed.Listed.{Listed}
 use Rattle.palm_model.specs.Domains.{Has}
-use Rattle.palm_claim.specs.Taking as of_family
+use Rattle.palm_claim.specs.Taking.{TakesStatement}
 use Rattle.palm_claim.specs.declared.ground.Ground.{Ground}
+use Rattle.palm_claim.specs.declared.statement.Statement.TheVariants.{Phrase}
 use Rattle.palm_claim.specs.declared.verdict.Cause.{Cause}
 use Rattle.proof_text.specs.Draft.{Draft}
 use Rattle.proof_text.specs.Verdict.{proofs}
 use Rattle.proof_text.specs.declared.lemma.Lemma.{Lemma}
-use Rattle.proof_text.specs.declared.statement.Statement.{Statement}
-use Rattle.proof_text.specs.declared.statement.Statement.TheVariants.{Step}
-use Rattle.proof_check.specs.declared.checker.Checker.{Checker}
+use Rattle.proof_text.specs.declared.statement.ProofPhrase.{ProofPhrase}
+use Rattle.proof_text.specs.declared.statement.ProofPhrase.TheVariants.{Step}
+use Rattle.palm_listed.specs.declared.listed.Listed.{Listed}
+use Rattle.text_check.specs.Kept.{AreKept}
+use Rattle.proof_check.specs.declared.body.ProofBody.{ProofBody}
 
--- the draft that is kept
-abbrev pub draft_of : Checker → Draft
-draft_of c = record { stage = c.stage; book = c.listed.book; lemmas = c.lemmas; begun = c.begun; proved = c.proved.items }
+-- what the lines have said so far
+abbrev pub said : Contents → ProofBody → Draft
+said book body = record { stage = body.stage; book = book; lemmas = body.lemmas; begun = body.begun; proved = body.proved.items }
 
 -- ---- what is assumed, by variables
 
@@ -65,18 +66,20 @@ pub record IsBehind (room count : ℕ) (l : Lemma) : Type 0 where
 pub record AreBehind (room : ℕ) (lemmas : List Lemma) : Type 0 where
   pub each : (place : ℕ) (l : Lemma) → slice_get lemmas place ≡ Some l → IsBehind room place l
 
--- what was listed is kept, the pairs of the lemma begun are assumed, its steps have proved declared pairs, and each lemma
--- names lemmas before it
-pub record AreKept (listed : Listed) (lemmas : List Lemma) (begun : Lemma) (assumed : List (Option ℤ)) (proved : List Pair) : Type 0 where
-  pub lists : IsListed listed
-  pub declared : All (λ p. Has (initial_of listed.book) p.var p.value) proved
-  pub long : length assumed ≡ length listed.book.variables
+-- the pairs of the lemma begun are assumed, its steps have proved declared pairs, and each lemma names lemmas before it
+pub record AreReasoned (book : Contents) (lemmas : List Lemma) (begun : Lemma) (assumed : List (Option ℤ)) (proved : List Pair) : Type 0 where
+  pub declared : All (λ p. Has (initial_of book) p.var p.value) proved
+  pub long : length assumed ≡ length book.variables
   pub assumes : AreAssumed begun.pairs assumed
-  pub behind : AreBehind (length listed.book.constraints + 1) lemmas
-  pub last : IsBehind (length listed.book.constraints + 1) (length lemmas) begun
+  pub behind : AreBehind (length book.constraints + 1) lemmas
+  pub last : IsBehind (length book.constraints + 1) (length lemmas) begun
 
-abbrev pub IsChecker : Checker → Type 0
-IsChecker c = AreKept c.listed c.lemmas c.begun c.assumed.items c.proved.items
+abbrev pub IsReasoned : Contents → ProofBody → Type 0
+IsReasoned book body = AreReasoned book body.lemmas body.begun body.assumed.items body.proved.items
+
+-- and what was listed is kept
+abbrev pub IsKept : Listed → ProofBody → Type 0
+IsKept listed body = AreKept IsReasoned listed body
 
 -- ---- what is answered
 
@@ -99,14 +102,10 @@ AssumesOrNot d name value true e = (pair : Pair) × IsPair d.book.variables name
 AssumesOrNot d name value false e = (IsDeclared d.book.variables name value → ⊥)
     ⊎ ((pair q : Pair) × IsPair d.book.variables name value pair × Contains d.begun.pairs q × (q.var ≡ pair.var))
 
--- what is answered to a statement: its first cause, or that it has none, and then the draft behind it
-abbrev pub TakesStatement : Draft → Statement → Option Cause → Draft → Type 0
-TakesStatement d s o e = of_family.TakesStatement proofs d s o e
-
--- and to a line
-abbrev pub TakesLine : Draft → List ℕ → Option Cause → Draft → Type 0
-TakesLine d line o e = of_family.TakesLine proofs d line o e
+-- what is answered to a phrase: its first cause, or that it has none, and then the draft behind it
+abbrev pub TakesPhrase : Draft → ProofPhrase → Option Cause → Draft → Type 0
+TakesPhrase d phrase o e = TakesStatement proofs d (Phrase phrase) o e
 
 -- and to a step of a declared pair with this ground
 abbrev pub TakesGround : Draft → Pair → Ground → Option Cause → Draft → Type 0
-TakesGround d pair basis o e = (name : List ℕ) (value : ℤ) → IsPair d.book.variables name value pair → TakesStatement d (Step name value basis) o e
+TakesGround d pair basis o e = (name : List ℕ) (value : ℤ) → IsPair d.book.variables name value pair → TakesPhrase d (Step name value basis) o e

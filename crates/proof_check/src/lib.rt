@@ -1,13 +1,13 @@
-//! The checker of proofs that constraints have no solution. It takes them line by line, by their stages, over what they
-//! list; it knows no log, no agenda, no engine and no search.
+//! The checker of proofs that constraints have no solution: what a proof has besides what all texts list, which is its lemmas
+//! and their users.
 #![tactic(auto)]
 
 mod assumed;
-mod checker;
+mod body;
 mod lemmas;
 mod marks;
 mod phrases;
-mod statements;
+mod stages;
 mod users;
 mod verdict;
 

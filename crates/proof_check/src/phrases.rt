@@ -1,29 +1,19 @@
-//! Reading the forms that only proofs have.
+//! Reading the phrases of proofs.
 ghost use Rattle.std.specs.Prelude.{◌≡◌, true, false, IfNone, IfSome, option_map};
 ghost use Rattle.palm_base.specs.Numbers.{AreDigits, digits_number};
-ghost use Rattle.palm_read.specs.Reader.Held.{Gives, GivesAll};
+ghost use Rattle.palm_read.specs.Reader.Held.{Gives};
 ghost use Rattle.palm_read.specs.Reader.Lists.{many_at, names_at, next_name};
-ghost use Rattle.proof_text.specs.Reader.{begins_phrase, by_at, ground_at, header_at, is_lead, is_lemma_number, lemma_at, lemma_number_at, next_pair, of_lemma_at, phrase_at, phrase_of, step_at, users_at, wipe_at};
+ghost use Rattle.proof_text.specs.Reader.{by_at, ground_at, header_at, is_lead, is_lemma_number, lemma_at, lemma_number_at, next_pair, of_lemma_at, phrase_at, step_at, users_at, wipe_at};
 
 use palm_base::read_int;
-use palm_check::{read_reasons, read_value};
 use palm_claim::Ground;
 use palm_read::{Cursor, LineError, Name, NameList, TokenKind};
-use proof_text::{NamedPair, NamedPairList, Statement};
+use proof_text::{NamedPair, NamedPairList, ProofPhrase};
 use std::alloc::Global;
+use text_check::{read_reasons, read_value};
 
-/// Whether the token in front is the first word of such a form.
-#[tactic(auto, unfolding(proof_text::specs::Reader::begins_phrase))]
-pub fn begins_phrase(cursor: &Cursor<'_>) -> bool
-    ensures { result ≡ begins_phrase cursor.now }
-{
-    match cursor.text(TokenKind::Word) {
-        Some(word) => is_lead(word),
-        None => false,
-    }
-}
-
-fn is_lead(word: &[u8]) -> bool
+/// Whether a phrase begins with the word.
+pub fn is_lead(word: &[u8]) -> bool
     ensures { result ≡ is_lead word.now }
 {
     word == b"step".as_slice()
@@ -34,22 +24,10 @@ fn is_lead(word: &[u8]) -> bool
         || word == b"palm".as_slice()
 }
 
-/// What all tokens say by such a form.
-#[tactic(auto, unfolding(proof_text::specs::Reader::phrase_of, palm_read::specs::Reader::Steps::and_then, palm_read::specs::Reader::Steps::choose))]
-pub fn read_phrase(alloc: Global, cursor: &mut Cursor<'_>) -> Result<Statement, LineError>
-    ensures { GivesAll (λ statement. statement) result (phrase_of cursor.old) }
-{
-    let statement = phrase(cursor, alloc)?;
-    if !cursor.is_at_end() {
-        return Err(LineError::Form);
-    }
-    Ok(statement)
-}
-
-/// Reads a form by its first word.
+/// Reads a phrase by its first word.
 #[tactic(auto, unfolding(proof_text::specs::Reader::phrase_at, palm_read::specs::Reader::Steps::when))]
-fn phrase(cursor: &mut Cursor<'_>, alloc: Global) -> Result<Statement, LineError>
-    ensures { Gives (λ statement. statement) result cursor.new (phrase_at cursor.old) }
+pub fn read_phrase(cursor: &mut Cursor<'_>, alloc: Global) -> Result<ProofPhrase, LineError>
+    ensures { Gives (λ phrase. phrase) result cursor.new (phrase_at cursor.old) }
 {
     if cursor.takes_word(b"step") {
         step(cursor, alloc)
@@ -60,7 +38,7 @@ fn phrase(cursor: &mut Cursor<'_>, alloc: Global) -> Result<Statement, LineError
     } else if cursor.takes_word(b"none") {
         users(cursor, alloc)
     } else if cursor.takes_word(b"end") {
-        Ok(Statement::End)
+        Ok(ProofPhrase::End)
     } else {
         header(cursor)
     }
@@ -68,8 +46,8 @@ fn phrase(cursor: &mut Cursor<'_>, alloc: Global) -> Result<Statement, LineError
 
 /// Reads the header: `palm`, `-`, `proof` and `1`.
 #[tactic(auto, unfolding(proof_text::specs::Reader::header_at, palm_read::specs::Reader::Steps::and_then))]
-fn header(cursor: &mut Cursor<'_>) -> Result<Statement, LineError>
-    ensures { Gives (λ statement. statement) result cursor.new (header_at cursor.old) }
+fn header(cursor: &mut Cursor<'_>) -> Result<ProofPhrase, LineError>
+    ensures { Gives (λ phrase. phrase) result cursor.new (header_at cursor.old) }
 {
     cursor.keyword(b"palm")?;
     cursor.sign(b"-")?;
@@ -77,27 +55,27 @@ fn header(cursor: &mut Cursor<'_>) -> Result<Statement, LineError>
     if !cursor.takes(TokenKind::Digits, b"1") {
         return Err(LineError::Form);
     }
-    Ok(Statement::Header)
+    Ok(ProofPhrase::Header)
 }
 
 /// Reads the pairs of a lemma, which may be none.
 #[tactic(auto, unfolding(proof_text::specs::Reader::lemma_at, palm_read::specs::Reader::Steps::and_then))]
-fn lemma(cursor: &mut Cursor<'_>, alloc: Global) -> Result<Statement, LineError>
-    ensures { Gives (λ statement. statement) result cursor.new (lemma_at cursor.old) }
+fn lemma(cursor: &mut Cursor<'_>, alloc: Global) -> Result<ProofPhrase, LineError>
+    ensures { Gives (λ phrase. phrase) result cursor.new (lemma_at cursor.old) }
 {
     let pairs = pairs(cursor, alloc)?;
-    Ok(Statement::Lemma(pairs))
+    Ok(ProofPhrase::Lemma(pairs))
 }
 
 /// Reads a name, a value and why the step takes the pair out.
 #[tactic(auto, unfolding(proof_text::specs::Reader::step_at, palm_read::specs::Reader::Steps::and_then))]
-fn step(cursor: &mut Cursor<'_>, alloc: Global) -> Result<Statement, LineError>
-    ensures { Gives (λ statement. statement) result cursor.new (step_at cursor.old) }
+fn step(cursor: &mut Cursor<'_>, alloc: Global) -> Result<ProofPhrase, LineError>
+    ensures { Gives (λ phrase. phrase) result cursor.new (step_at cursor.old) }
 {
     let name = cursor.owned_name(alloc)?;
     let value = read_value(cursor)?;
     let ground = step_ground(cursor, alloc)?;
-    Ok(Statement::Step {
+    Ok(ProofPhrase::Step {
         name,
         value,
         ground,
@@ -106,20 +84,20 @@ fn step(cursor: &mut Cursor<'_>, alloc: Global) -> Result<Statement, LineError>
 
 /// Reads the name of the variable that has no value left.
 #[tactic(auto, unfolding(proof_text::specs::Reader::wipe_at, palm_read::specs::Reader::Steps::and_then))]
-fn wipe(cursor: &mut Cursor<'_>, alloc: Global) -> Result<Statement, LineError>
-    ensures { Gives (λ statement. statement) result cursor.new (wipe_at cursor.old) }
+fn wipe(cursor: &mut Cursor<'_>, alloc: Global) -> Result<ProofPhrase, LineError>
+    ensures { Gives (λ phrase. phrase) result cursor.new (wipe_at cursor.old) }
 {
     let name = cursor.owned_name(alloc)?;
-    Ok(Statement::Wipe(name))
+    Ok(ProofPhrase::Wipe(name))
 }
 
 /// Reads the names of constraints, which may be none.
 #[tactic(auto, unfolding(proof_text::specs::Reader::users_at, palm_read::specs::Reader::Lists::names_at, palm_read::specs::Reader::Steps::and_then, palm_read::specs::Reader::Steps::choose))]
-fn users(cursor: &mut Cursor<'_>, alloc: Global) -> Result<Statement, LineError>
-    ensures { Gives (λ statement. statement) result cursor.new (users_at cursor.old) }
+fn users(cursor: &mut Cursor<'_>, alloc: Global) -> Result<ProofPhrase, LineError>
+    ensures { Gives (λ phrase. phrase) result cursor.new (users_at cursor.old) }
 {
     let names = names(cursor, alloc)?;
-    Ok(Statement::Users(names))
+    Ok(ProofPhrase::Users(names))
 }
 
 /// Reads why a step takes its pair out.

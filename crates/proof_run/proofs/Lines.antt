@@ -35,7 +35,8 @@ use Rattle.palm_cert.proofs.cited.Saying.{value_within, words_from}
 use Rattle.palm_search.proofs.cited.Weighing.{distinct_below}
 use Rattle.proof_text.specs.Statement.{IsGroundInRange, Says, ground_pieces, header, lemma_pieces, pair_pieces, step_pieces, users_pieces, wipe_pieces}
 use Rattle.proof_text.specs.declared.statement.NamedPair.{NamedPair}
-use Rattle.proof_text.specs.declared.statement.Statement.TheVariants.{End, Header, Lemma, Step, Users, Wipe}
+use Rattle.palm_claim.specs.declared.statement.Statement.TheVariants.{Phrase}
+use Rattle.proof_text.specs.declared.statement.ProofPhrase.TheVariants.{End, Header, Lemma, Step, Users, Wipe}
 use Rattle.proof_run.specs.Lemma.{lemma_of, lemma_words, pair_word, step_words, why_words, wipe_words}
 use Rattle.proof_run.proofs.Own.{book_named}
 use Rattle.proof_run.proofs.Situation.{why_of}
@@ -72,14 +73,14 @@ header_tokens : tokens_of (codes "palm-proof 1") ≡ header
 unfolding tokens_of kind_at more_at lexeme_at
 header_tokens = refl
 
-pub header_says : Says (codes "palm-proof 1") Header
+pub header_says : Says (codes "palm-proof 1") (Phrase Header)
 header_says = (record { short = omega arith; says = refl; plain = AllPass-from_list_all is_plain (codes "palm-proof 1") refl }, header_tokens, tt)
 
 -- a line of words that are no note
 line_plain : {n : ℕ} (words : List (List ℕ)) (ps : List Piece) → Words n words ps → length (spaced words) ≤ 65536 → is_note (after_blanks (spaced words)) ≡ false → IsPlain (spaced words)
 line_plain words ps lays short says = record { short = short; says = says; plain = words_plain words ps lays }
 
-pub end_says : Says (fixed_word EndWord) End
+pub end_says : Says (fixed_word EndWord) (Phrase End)
 end_says =
     let words = words_keyword (codes "end") refl words_none in
     let pieces = Keyword (codes "end") ∷ [] in
@@ -129,7 +130,7 @@ module _ (book : Contents) (is : IsBook book) (undone : List Pair) where
 
   pub step_says : (pair : Pair) (by : Cid) (numbers : List ℕ) → Has (initial_of book) pair.var pair.value → CanSay book undone by → All IsStepNumber numbers
       → length (spaced (step_words book undone pair by numbers)) ≤ 65536
-      → Says (spaced (step_words book undone pair by numbers)) (Step (name_of book.variables pair.var) pair.value (why_of book undone by numbers))
+      → Says (spaced (step_words book undone pair by numbers)) (Phrase (Step (name_of book.variables pair.var) pair.value (why_of book undone by numbers)))
   step_says pair by numbers has can small short =
       let name = name_of book.variables pair.var in
       let value = pair_value book is pair has in
@@ -147,7 +148,7 @@ module _ (book : Contents) (is : IsBook book) where
       omega (arith, few, length-map pairs (λ (p : Pair). p.var), is.few_variables)
 
   pub lemma_says : (pairs : List Pair) → ((p : Pair) → Contains pairs p → Has (initial_of book) p.var p.value) → Distinct (vars_of pairs)
-      → Says (spaced (lemma_words book.variables pairs)) (Lemma (map (named_pair book.variables) pairs))
+      → Says (spaced (lemma_words book.variables pairs)) (Phrase (Lemma (map (named_pair book.variables) pairs)))
   lemma_says pairs declared apart =
       let each : (p : Pair) → Contains pairs p → IsNameText (name_of book.variables p.var) × IsValue p.value =
       λ p m. (variable_text book is p.var (pair_exists book is p (declared p m)), pair_value book is p (declared p m)) in
@@ -158,7 +159,7 @@ module _ (book : Contents) (is : IsBook book) where
       All-map (λ (n : NamedPair). IsValue n.value) (named_pair book.variables) pairs (all_members (λ (p : Pair). IsValue p.value) pairs (λ p m. (each p m).1)) in
       (line_plain (lemma_words book.variables pairs) pieces words short refl, words_spell (lemma_words book.variables pairs) pieces words, values)
 
-  pub wipe_says : (x : ℕ) → x < length book.variables → Says (spaced (wipe_words book.variables x)) (Wipe (name_of book.variables x))
+  pub wipe_says : (x : ℕ) → x < length book.variables → Says (spaced (wipe_words book.variables x)) (Phrase (Wipe (name_of book.variables x)))
   wipe_says x lt =
       let name = name_of book.variables x in
       let words = words_keyword (codes "wipe") refl (words_name name (variable_text book is x lt) words_none) in
@@ -172,7 +173,7 @@ words_users [] texts = words_none
 words_users (name ∷ names) texts =
     words_weaker (length (name ∷ names) * 33) (words_name name (All-head IsNameText name names texts) (words_users names (All-tail IsNameText name names texts))) (omega arith)
 
-pub users_says : (names : List (List ℕ)) → All IsNameText names → length names ≤ MOST_CONSTRAINTS → Says (spaced (lead_word NoSolution ∷ names)) (Users names)
+pub users_says : (names : List (List ℕ)) → All IsNameText names → length names ≤ MOST_CONSTRAINTS → Says (spaced (lead_word NoSolution ∷ names)) (Phrase (Users names))
 users_says names texts few =
     let words = words_keyword (codes "none") refl (words_users names texts) in
     let pieces = users_pieces names in

@@ -1,6 +1,5 @@
 -- The first lines of a proof lead to what it lists: the header, the variables and the active constraints.
 use Rattle.std.proofs.Common.{◌≡◌, ◌≢◌, ℕ, ℤ, ◌+◌, ◌<◌, ◌≤◌, Bool, true, List, [], ◌∷◌, ◌++◌, length, flat_map, get_or, codes, Contains, inl, inr, refl, sym, ap, ◌∙◌, subst, append_assoc, append-nil, arith}
-use Rattle.std.specs.Bool.{⊤}
 use Rattle.std.specs.List.{range_with_len}
 use Rattle.std.proofs.lemmas.List.{length-append}
 use Rattle.std.proofs.lemmas.List.Elements.{All-contains, Contains-append_right}
@@ -12,7 +11,6 @@ use Rattle.palm_read.specs.Name.{IsNameText}
 use Rattle.palm_read.specs.Reading.{IsRead}
 use Rattle.palm_read.specs.Text.{text_of}
 use Rattle.palm_read.specs.declared.line.Line.TheVariants.{Add, Var}
-use Rattle.palm_read.specs.declared.line.Shape.{Shape}
 use Rattle.palm_read.specs.declared.mode.Mode.TheVariants.{Two}
 use Rattle.palm_book.specs.Book.{BookVar, Contents, HasConstraint, HasVariable, IsBook, name_of, values_at}
 use Rattle.palm_book.specs.Named.{Resolves, named}
@@ -27,12 +25,13 @@ use Rattle.palm_cert.specs.Certificate.{added_line, declared_line}
 use Rattle.palm_cert.specs.Readable.{IsDeclaredBy}
 use Rattle.palm_cert.proofs.cited.Before.{Before, before_from, before_split, filter_shorter}
 use Rattle.palm_cert.proofs.cited.Declared.{named_read, variable_says}
-use Rattle.proof_text.specs.Draft.{Draft, MayStand, blank, unproved}
+use Rattle.proof_text.specs.Draft.{Draft, MayFollow, MayList, blank, unproved}
 use Rattle.proof_text.specs.Verdict.{Meets, proofs}
 use Rattle.proof_text.specs.declared.statement.NamedPair.{NamedPair}
 use Rattle.proof_text.specs.declared.statement.Stage.{Stage}
 use Rattle.proof_text.specs.declared.statement.Stage.TheVariants.{Closed, Declaring, Listing, Reasoning, Told, Unopened, Wiped}
-use Rattle.proof_text.specs.declared.statement.Statement.TheVariants.{Constraint, Header, Lemma, Variable}
+use Rattle.palm_claim.specs.declared.statement.Statement.TheVariants.{Constraint, Phrase, Variable}
+use Rattle.proof_text.specs.declared.statement.ProofPhrase.TheVariants.{Header, Lemma}
 use Rattle.proof_run.specs.Accepted.{as_listed, numbered_from}
 use Rattle.proof_run.specs.Text.{declarations, header_line}
 use Rattle.proof_run.proofs.Lines.{header_says}
@@ -40,22 +39,8 @@ use Rattle.proof_run.proofs.Own.{actives, before_actives, numbered_length, numbe
 
 -- ---- stages
 
--- constraints and lemmas may follow
-abbrev pub MayListOn : Stage → Type 0
-MayListOn Declaring = ⊤
-MayListOn Listing = ⊤
-MayListOn _ = ⊥
-
-may_list : (stage : Stage) (name : List ℕ) (shape : Shape) → MayListOn stage → MayStand stage (Constraint name shape)
-may_list Unopened name shape may = may
-may_list Declaring name shape may = tt
-may_list Listing name shape may = tt
-may_list Reasoning name shape may = may
-may_list Wiped name shape may = may
-may_list (Told users) name shape may = may
-may_list (Closed users) name shape may = may
-
-pub may_argue : (stage : Stage) (pairs : List NamedPair) → MayListOn stage → MayStand stage (Lemma pairs)
+-- where a constraint may stand, so may a lemma
+pub may_argue : (stage : Stage) (pairs : List NamedPair) → MayList stage → MayFollow stage (Lemma pairs)
 may_argue Unopened pairs may = may
 may_argue Declaring pairs may = tt
 may_argue Listing pairs may = tt
@@ -74,7 +59,7 @@ listing stage variables constraints =
 header_reads : Reads proofs blank header_line (listing Declaring [] [])
 header_reads =
     reads_line proofs blank (listing Declaring [] []) (codes "palm-proof 1") header_line refl header_says.0.plain
-    (record { statement = Header; says = header_says; none = no_cause (Meets blank Header) (λ h. h refl) (λ h. h) (λ h. h) (λ h. h) (λ h. h) (λ h. h); leads = refl })
+    (record { statement = Phrase Header; says = header_says; none = no_cause (Meets blank (Phrase Header)) (λ h. h refl) (λ h. h) (λ h. h) (λ h. h) (λ h. h) (λ h. h); leads = refl })
 
 -- what stands behind the earlier variables
 variable_at : (earlier : List BookVar) (e : BookVar) (later : List BookVar) (d : BookVar) → get_or (earlier ++ e ∷ later) (length earlier) d ≡ e
@@ -175,7 +160,7 @@ module _ (book : Contents) (is : IsBook book) where
       numbered_more 1 earlier c
       ∙ ap (λ (d : BookCon). numbered_from 1 earlier ++ d ∷ []) (listed_as c (length earlier + 1) (length (numbered_from 1 earlier) + 1) on (omega (arith, numbered_length 1 earlier)))
 
-  constraint_reads : (stage : Stage) → MayListOn stage → (earlier : List BookCon) (c : BookCon) (later : List BookCon) → actives book ≡ earlier ++ c ∷ later
+  constraint_reads : (stage : Stage) → MayList stage → (earlier : List BookCon) (c : BookCon) (later : List BookCon) → actives book ≡ earlier ++ c ∷ later
       → Reads proofs (behind stage earlier) (added_line book.variables c) (behind Listing (earlier ++ c ∷ []))
   constraint_reads stage may earlier c later split =
       let shape = named book.variables c.con in
@@ -186,14 +171,14 @@ module _ (book : Contents) (is : IsBook book) where
         statement = Constraint c.name shape;
         says = constraint_says c f.0;
         none =
-            no_cause (Meets (behind stage earlier) (Constraint c.name shape)) (λ h. h (may_list stage c.name shape may))
+            no_cause (Meets (behind stage earlier) (Constraint c.name shape)) (λ h. h may)
             (λ h. elim h [ inl has ↦ constraint_new earlier c later split has | inr unknown ↦ known book.variables shape c.con (says_itself c f.0) unknown ])
             (λ h. elim h [ inl far ↦ constraint_near c f.0 far | inr full ↦ constraint_room earlier c later split full ]) (λ h. h) (λ h. h) (λ h. h);
         leads = (c.con, says_itself c f.0, ap (listing Listing book.variables) (constraint_added earlier c f.1));
       })
 
-  constraints_read : (stage : Stage) → MayListOn stage → (earlier later : List BookCon) → actives book ≡ earlier ++ later
-      → (last : Stage) × MayListOn last × Reads proofs (behind stage earlier) (flat_map (added_line book.variables) later) (behind last (actives book))
+  constraints_read : (stage : Stage) → MayList stage → (earlier later : List BookCon) → actives book ≡ earlier ++ later
+      → (last : Stage) × MayList last × Reads proofs (behind stage earlier) (flat_map (added_line book.variables) later) (behind last (actives book))
   constraints_read stage may earlier [] split =
       (stage, may, reads_none proofs (behind stage earlier) (behind stage (actives book)) (ap (behind stage) (sym (split ∙ append-nil earlier))))
   constraints_read stage may earlier (c ∷ later) split =
@@ -207,7 +192,7 @@ module _ (book : Contents) (is : IsBook book) where
   -- ---- all of them
 
   -- the declarations lead to the book as it is listed
-  pub listing_reads : (stage : Stage) × MayListOn stage × Reads proofs blank (declarations book) (listing stage (as_listed book).variables (as_listed book).constraints)
+  pub listing_reads : (stage : Stage) × MayList stage × Reads proofs blank (declarations book) (listing stage (as_listed book).variables (as_listed book).constraints)
   listing_reads =
       let variables = flat_map (declared_line book.variables) (range_with_len 0 (length book.variables)) in
       let constraints = flat_map (added_line book.variables) (actives book) in

@@ -24,13 +24,14 @@ use Rattle.palm_model.specs.Domains.{Has}
 use Rattle.palm_model.specs.Event.{vars_of}
 use Rattle.palm_model.specs.Log.{Removal, log_pairs}
 use Rattle.palm_read.specs.Words.{spaced}
-use Rattle.proof_text.specs.Draft.{ArePairs, Draft, MayStand, Notes, given_in}
+use Rattle.proof_text.specs.Draft.{ArePairs, Draft, MayFollow, Notes, given_in}
 use Rattle.proof_text.specs.Verdict.{AreApart, IsUnknownGround, IsUnprovedGround, Meets, proofs}
 use Rattle.proof_text.specs.declared.lemma.Lemma.{Lemma}
 use Rattle.proof_text.specs.declared.statement.NamedPair.{NamedPair}
 use Rattle.proof_text.specs.declared.statement.Stage.{Stage}
 use Rattle.proof_text.specs.declared.statement.Stage.TheVariants.{Reasoning, Wiped}
-use Rattle.proof_text.specs.declared.statement.Statement.TheVariants.{Lemma as LemmaLine, Step, Wipe}
+use Rattle.palm_claim.specs.declared.statement.Statement.TheVariants.{Phrase}
+use Rattle.proof_text.specs.declared.statement.ProofPhrase.TheVariants.{Lemma as LemmaLine, Step, Wipe}
 use Rattle.proof_run.specs.Accepted.{as_listed}
 use Rattle.proof_run.specs.Lemma.{lemma_line, lemma_of, lemma_words, step_line, step_words, text_of_lemma, wipe_line, wipe_words}
 use Rattle.proof_run.proofs.Lines.{CanSay, lemma_says, named_pair, pair_exists, step_says, wipe_says}
@@ -40,7 +41,7 @@ use Rattle.proof_run.proofs.Using.{AreWritten, all_lemma_numbers, all_own_number
 
 -- a lemma may begin at the stage
 abbrev pub MayReason : Stage → Type 0
-MayReason stage = (named : List NamedPair) → MayStand stage (LemmaLine named)
+MayReason stage = (named : List NamedPair) → MayFollow stage (LemmaLine named)
 
 -- ---- pairs
 
@@ -98,10 +99,10 @@ module _ (book : Contents) (is : IsBook book) (ls : List Lemma) (known : List Le
         let says = lemma_says book is pairs lemma.assumed lemma.apart in
         reads_line proofs d (reasoning []) (spaced (lemma_words book.variables pairs)) (lemma_line book.variables pairs) refl says.0.plain
         (record {
-          statement = LemmaLine named;
+          statement = Phrase (LemmaLine named);
           says = says;
           none =
-              no_cause (Meets d (LemmaLine named)) (λ h. h (may named))
+              no_cause (Meets d (Phrase (LemmaLine named))) (λ h. h (may named))
               (λ h. elim h [ inl undeclared ↦ none_undeclared undeclared | inr not_apart ↦ not_apart (are_apart book is pairs lemma.assumed lemma.apart) ]) (λ h. h) (λ h. h) (λ h. h) (λ h. h);
           leads = (pairs, are_pairs book is pairs lemma.assumed, refl);
         })
@@ -201,10 +202,10 @@ module _ (book : Contents) (is : IsBook book) (ls : List Lemma) (known : List Le
         let behind : Lemma → List Pair → Draft = λ l ps. saying Reasoning l ps in
         reads_line proofs d (reasoning (earlier ++ r ∷ [])) (spaced (step_words book undone r.pair r.by numbers)) (step_line book undone steps r) refl says.0.plain
         (record {
-          statement = Step name r.pair.value why;
+          statement = Phrase (Step name r.pair.value why);
           says = says;
           none =
-              no_cause (Meets d (Step name r.pair.value why)) (λ h. h refl)
+              no_cause (Meets d (Phrase (Step name r.pair.value why))) (λ h. h refl)
               (λ h. elim h [ inl undeclared ↦ undeclared (declared_pair book is r.pair has) | inr unknown ↦ f.known_ground unknown ]) (λ h. h) f.proved_ground
               (λ h.
               let same = pair_is book.variables name r.pair.value r.pair h.0 is.different_variables is_pair h.1 in
@@ -241,10 +242,10 @@ module _ (book : Contents) (is : IsBook book) (ls : List Lemma) (known : List Le
         let is_variable : IsVariable book.variables name x = record { declared = lemma.exists; named = refl } in
         reads_line proofs d reasoned (spaced (wipe_words book.variables x)) (wipe_line book.variables x) refl says.0.plain
         (record {
-          statement = Wipe name;
+          statement = Phrase (Wipe name);
           says = says;
           none =
-              no_cause (Meets d (Wipe name)) (λ h. h refl) (λ h. h (variable_known book.variables name x is_variable)) (λ h. h) (λ h. h) (λ h. h)
+              no_cause (Meets d (Phrase (Wipe name))) (λ h. h refl) (λ h. h (variable_known book.variables name x is_variable)) (λ h. h) (λ h. h) (λ h. h)
               (λ h.
               let same = variable_is book.variables name x h.0 is.different_variables is_variable h.1 in
               h.2 (subst (λ (y : ℕ). IsReached (as_listed book) (log_pairs steps) (Conflict y)) same lemma.wiped));

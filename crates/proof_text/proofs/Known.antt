@@ -1,5 +1,5 @@
 -- Every text has a verdict: whatever is asked of a line is known.
-use Rattle.std.proofs.Common.{◌≡◌, ℕ, ◌-◌, ◌<◌, ◌≤◌, Option, Some, None, List, [], ◌∷◌, ◌++◌, length, map, slice_get, All, Any, Contains, inl, inr, refl, sym, ap, ◌∙◌, subst, arith, length-append}
+use Rattle.std.proofs.Common.{◌≡◌, ℕ, ◌-◌, ◌<◌, ◌≤◌, Option, Some, None, List, [], ◌∷◌, ◌++◌, length, map, slice_get, All, Any, Contains, refl, sym, ap, ◌∙◌, subst, arith, inl, inr, length-append}
 use Rattle.std.proofs.lemmas.Bool.{cases_lt}
 use Rattle.std.proofs.lemmas.List.Elements.{All-contains, All-nil, All-push}
 use Rattle.std.proofs.lemmas.Option.{none-some, same_Some}
@@ -8,38 +8,38 @@ use Rattle.palm_base.specs.declared.terms.Cid.{Cid}
 use Rattle.palm_base.specs.declared.terms.Pair.{Pair}
 use Rattle.palm_base.proofs.cited.Members.{Known, all_known, all_members, any_known, int_known, known_both, known_not, list_known, member_here, member_known, member_there, nat_known}
 use Rattle.palm_book.specs.Book.{BookVar, Contents}
-use Rattle.palm_book.specs.Named.{IsDeclared, IsUnknownName}
+use Rattle.palm_book.specs.Named.{IsDeclared}
 use Rattle.palm_book.specs.declared.book.BookCon.{BookCon}
-use Rattle.palm_book.specs.declared.limits.TheConstants.{MOST_VARIABLES, MOST_CONSTRAINTS}
 use Rattle.palm_book.proofs.cited.Any.{any_member, member_any}
-use Rattle.palm_book.proofs.cited.Naming.{constraint_with, some_known}
+use Rattle.palm_book.proofs.cited.Naming.{some_known}
 use Rattle.palm_book.proofs.cited.Pairs.{Apart}
-use Rattle.palm_read.specs.Domain.{values_in}
-use Rattle.palm_read.specs.Limits.{names_of}
-use Rattle.palm_read.specs.declared.line.Line.TheVariants.{Var, Add}
-use Rattle.palm_read.proofs.cited.KnownLimits.{above_known, beyond_known, known_either, most_known}
+use Rattle.palm_read.proofs.cited.KnownLimits.{above_known, known_either}
 use Rattle.palm_claim.specs.Judging.{in_order}
+use Rattle.palm_claim.specs.Own as of_texts
 use Rattle.palm_claim.specs.Step.{Given, IsAssumed, IsOfLemma, IsReached, IsRightBy}
 use Rattle.palm_claim.specs.declared.ground.Ground.{Ground}
 use Rattle.palm_claim.specs.declared.ground.Ground.TheVariants.{By, Assumed, OfLemma}
 use Rattle.palm_claim.specs.declared.verdict.Cause.{Cause}
 use Rattle.palm_claim.specs.declared.verdict.Cause.TheVariants.{Malformed, Misdeclared, Beyond, Unproved, NotRight, NotReached}
 use Rattle.palm_claim.specs.declared.verdict.Claim.TheVariants.{Conflict}
-use Rattle.palm_claim.proofs.cited.Asked.{asked_of_pair, asked_of_variable, constraint_known, declared_known, known_never, named_all, pair_known, pair_with, reached_known, right_known, settled, unknown_known, variable_known}
-use Rattle.palm_claim.proofs.cited.Judged.{IsKnown, has_verdict}
-use Rattle.proof_text.specs.Draft.{ArePairs, Draft, Leads, MayStand, Notes, at_stage, blank, given_in, users_of, with_constraint, with_lemma, with_step, with_variable, with_wipe}
+use Rattle.palm_claim.proofs.cited.Asked.{asked_of_pair, asked_of_variable, constraint_known, declared_known, known_never, pair_known, pair_with, reached_known, right_known, settled, variable_known}
+use Rattle.palm_claim.proofs.cited.Judged.{has_verdict}
+use Rattle.palm_claim.proofs.cited.Listing.{ArePhrasesKnown, NamesApart, is_known, leads_apart, none_apart}
+use Rattle.proof_text.specs.Draft.{ArePairs, Draft, Leads, MayFollow, MayList, MayStand, Notes, at_stage, blank, given_in, users_of, with_lemma, with_step, with_wipe}
 use Rattle.proof_text.specs.Statement.{IsGroundInRange, Says}
 use Rattle.proof_text.specs.Users.{Uses}
-use Rattle.proof_text.specs.Verdict.{AreApart, AreUsers, HasUnproved, IsBeyondLimits, IsMisdeclared, IsNotReached, IsNotRight, IsUnknownGround, IsUnprovedGround, IsVerdict, Meets, proofs}
+use Rattle.proof_text.specs.Verdict.{AreApart, AreUsers, HasUnproved, IsMisdeclared, IsNotReached, IsNotRight, IsUnknownGround, IsUnprovedGround, IsVerdict, Meets, MeetsPhrase, of_proofs, proofs}
 use Rattle.proof_text.specs.declared.lemma.Lemma.{Lemma}
 use Rattle.proof_text.specs.declared.statement.NamedPair.{NamedPair}
 use Rattle.proof_text.specs.declared.statement.Stage.{Stage}
 use Rattle.proof_text.specs.declared.statement.Stage.TheVariants.{Unopened, Declaring, Listing, Reasoning, Wiped, Told, Closed}
-use Rattle.proof_text.specs.declared.statement.Statement.{Statement}
-use Rattle.proof_text.specs.declared.statement.Statement.TheVariants.{Comment, Header, Variable, Constraint, Lemma as LemmaLine, Step, Wipe, Users, End}
+use Rattle.palm_claim.specs.declared.statement.Statement.{Statement}
+use Rattle.palm_claim.specs.declared.statement.Statement.TheVariants.{Comment, Variable, Constraint, Phrase}
+use Rattle.proof_text.specs.declared.statement.ProofPhrase.{ProofPhrase}
+use Rattle.proof_text.specs.declared.statement.ProofPhrase.TheVariants.{Header, Lemma as LemmaLine, Step, Wipe, Users, End}
 use Rattle.proof_text.specs.declared.verdict.ProofVerdict.{ProofVerdict}
-use Rattle.proof_text.proofs.cited.Saying.{each_said}
-use Rattle.proof_text.proofs.cited.Unique.{NamesApart, leads_apart, none_apart}
+use Rattle.proof_text.proofs.cited.Phrases.{are_phrases}
+use Rattle.proof_text.proofs.cited.Unique.{proofs_keep}
 use Rattle.proof_text.proofs.cited.Using.{AreEarlier, IsUpTo, earlier_more, has_picked, none_earlier, picked_once, up_to_more, uses_known}
 
 -- ---- the order of the lines
@@ -60,22 +60,28 @@ is_wiped : (stage : Stage) → Known (stage ≡ Wiped)
 is_wiped Wiped = inl refl
 is_wiped _ = inr (λ e. cc)
 
-stand_known : (stage : Stage) (s : Statement) → Known (MayStand stage s)
+listing_known : (stage : Stage) → Known (MayList stage)
+listing_known Declaring = inl tt
+listing_known Listing = inl tt
+listing_known _ = known_never
+
+follow_known : (stage : Stage) (s : ProofPhrase) → Known (MayFollow stage s)
+follow_known stage Header = is_unopened stage
+follow_known Declaring (LemmaLine named) = inl tt
+follow_known Listing (LemmaLine named) = inl tt
+follow_known Wiped (LemmaLine named) = inl tt
+follow_known _ (LemmaLine named) = known_never
+follow_known stage (Step name value ground) = is_reasoning stage
+follow_known stage (Wipe name) = is_reasoning stage
+follow_known stage (Users names) = is_wiped stage
+follow_known (Told users) End = inl tt
+follow_known _ End = known_never
+
+stand_known : (stage : Stage) (s : Statement ProofPhrase) → Known (MayStand stage s)
 stand_known stage Comment = inl tt
-stand_known stage Header = is_unopened stage
 stand_known stage (Variable name domain) = is_declaring stage
-stand_known Declaring (Constraint name shape) = inl tt
-stand_known Listing (Constraint name shape) = inl tt
-stand_known _ (Constraint name shape) = known_never
-stand_known Declaring (LemmaLine named) = inl tt
-stand_known Listing (LemmaLine named) = inl tt
-stand_known Wiped (LemmaLine named) = inl tt
-stand_known _ (LemmaLine named) = known_never
-stand_known stage (Step name value ground) = is_reasoning stage
-stand_known stage (Wipe name) = is_reasoning stage
-stand_known stage (Users names) = is_wiped stage
-stand_known (Told users) End = inl tt
-stand_known _ End = known_never
+stand_known stage (Constraint name shape) = listing_known stage
+stand_known stage (Phrase phrase) = follow_known stage phrase
 
 -- ---- declarations
 
@@ -94,22 +100,13 @@ unknown_ground_known d (By name reasons) = known_not (constraint_known d.book na
 unknown_ground_known d Assumed = known_never
 unknown_ground_known d (OfLemma number) = known_never
 
-misdeclared_known : (d : Draft) (s : Statement) → Known (IsMisdeclared d s)
-misdeclared_known d (Variable name domain) = variable_known d.book name
-misdeclared_known d (Constraint name shape) = known_either (constraint_known d.book name) (some_known (IsUnknownName d.book.variables) (names_of shape) (unknown_known d.book.variables))
+misdeclared_known : (d : Draft) (s : ProofPhrase) → Known (IsMisdeclared d s)
 misdeclared_known d (LemmaLine named) =
     known_either (some_known (λ p. IsDeclared d.book.variables p.name p.value → ⊥) named (λ p. known_not (declared_known d.book.variables p.name p.value))) (known_not (apart_known named))
 misdeclared_known d (Step name value ground) = known_either (known_not (declared_known d.book.variables name value)) (unknown_ground_known d ground)
 misdeclared_known d (Wipe name) = known_not (variable_known d.book name)
 misdeclared_known d (Users names) = some_known (λ name. Any (λ c. c.name ≡ name) d.book.constraints → ⊥) names (λ name. known_not (constraint_known d.book name))
 misdeclared_known d _ = known_never
-
--- ---- limits
-
-limits_known : (d : Draft) (s : Statement) → Known (IsBeyondLimits d s)
-limits_known d (Variable name domain) = known_either (beyond_known (Var name domain)) (most_known MOST_VARIABLES (length d.book.variables))
-limits_known d (Constraint name shape) = known_either (beyond_known (Add name shape)) (most_known MOST_CONSTRAINTS (length d.book.constraints))
-limits_known d _ = known_never
 
 -- ---- steps
 
@@ -118,7 +115,7 @@ unproved_ground_known d (By name reasons) = some_known (λ k. length d.proved < 
 unproved_ground_known d Assumed = known_never
 unproved_ground_known d (OfLemma number) = above_known (length d.lemmas) number
 
-unproved_known : (d : Draft) (s : Statement) → Known (HasUnproved d s)
+unproved_known : (d : Draft) (s : ProofPhrase) → Known (HasUnproved d s)
 unproved_known d (Step name value ground) = unproved_ground_known d ground
 unproved_known d _ = known_never
 
@@ -158,7 +155,7 @@ right_by_known book given proved pair (By name reasons) = right_known book prove
 right_by_known book given proved pair Assumed = assumed_known given.pairs pair
 right_by_known book given proved pair (OfLemma number) = of_lemma_known given number pair
 
-not_right_known : (d : Draft) (s : Statement) → Apart d.book.variables → Known (IsNotRight d s)
+not_right_known : (d : Draft) (s : ProofPhrase) → Apart d.book.variables → Known (IsNotRight d s)
 not_right_known d (Step name value ground) apart =
     asked_of_pair d.book.variables name value (λ pair. IsRightBy d.book (given_in d) d.proved pair ground → ⊥) apart
     (λ pair. known_not (right_by_known d.book (given_in d) d.proved pair ground))
@@ -184,24 +181,24 @@ noted_up d (OfLemma number) lemma up range proved notes =
 abbrev IsInOrder : Draft → Type 0
 IsInOrder d = AreEarlier d.lemmas × All (IsUpTo (length d.lemmas)) d.begun.lemmas
 
-order_leads : (d e : Draft) (line : List ℕ) (s : Statement) → IsInOrder d → Says line s → IsNone (Meets d s) in_order → Leads d s e → IsInOrder e
+order_leads : (d e : Draft) (line : List ℕ) (s : Statement ProofPhrase) → IsInOrder d → Says line s → IsNone (Meets d s) in_order → of_texts.Leads of_proofs d s e → IsInOrder e
 order_leads d e line Comment order says none leads = subst IsInOrder (sym leads) order
-order_leads d e line Header order says none leads = subst IsInOrder (sym leads) order
+order_leads d e line (Phrase Header) order says none leads = subst IsInOrder (sym leads) order
 order_leads d e line (Variable name domain) order says none leads = subst IsInOrder (sym leads) order
 order_leads d e line (Constraint name shape) order says none leads = subst IsInOrder (sym leads.2) order
-order_leads d e line (LemmaLine named) order says none leads = subst IsInOrder (sym leads.2) (order.0, All-nil (IsUpTo (length d.lemmas)))
-order_leads d e line (Step name value ground) order says none leads =
+order_leads d e line (Phrase (LemmaLine named)) order says none leads = subst IsInOrder (sym leads.2) (order.0, All-nil (IsUpTo (length d.lemmas)))
+order_leads d e line (Phrase (Step name value ground)) order says none leads =
     subst IsInOrder (sym leads.4) (order.0, noted_up d ground leads.1 order.1 says.2.1 none.1.1.1.0 leads.3)
-order_leads d e line (Wipe name) order says none leads =
+order_leads d e line (Phrase (Wipe name)) order says none leads =
     let more : length d.lemmas ≤ length (d.lemmas ++ d.begun ∷ []) = omega (arith, length-append d.lemmas (d.begun ∷ [])) in
     subst IsInOrder (sym leads) (earlier_more d.lemmas d.begun order.0 order.1, up_to_more (length d.lemmas) (length (d.lemmas ++ d.begun ∷ [])) d.begun.lemmas more order.1)
-order_leads d e line (Users names) order says none leads = subst IsInOrder (sym leads.2) order
-order_leads d e line End order says none leads = subst IsInOrder (sym leads.2) order
+order_leads d e line (Phrase (Users names)) order says none leads = subst IsInOrder (sym leads.2) order
+order_leads d e line (Phrase End) order says none leads = subst IsInOrder (sym leads.2) order
 
-keeps_leads : (d e : Draft) (line : List ℕ) (s : Statement) → Keeps d → Says line s → IsNone (Meets d s) in_order → Leads d s e → Keeps e
+keeps_leads : (d e : Draft) (line : List ℕ) (s : Statement ProofPhrase) → Keeps d → Says line s → IsNone (Meets d s) in_order → of_texts.Leads of_proofs d s e → Keeps e
 keeps_leads d e line s keeps says none leads =
     let order = order_leads d e line s (keeps.earlier, keeps.begun) says none leads in
-    record { names = leads_apart d e s keeps.names none leads; earlier = order.0; begun = order.1 }
+    record { names = leads_apart of_proofs proofs_keep d e s keeps.names none leads; earlier = order.0; begun = order.1 }
 
 keeps_blank : Keeps blank
 keeps_blank = record { names = none_apart; earlier = none_earlier; begun = All-nil (IsUpTo 0) }
@@ -223,7 +220,7 @@ users_known d names keeps =
       | inr wrong ↦ inr (λ u. wrong (u.free, u.named ∙ ap (map name) (picked_once (IsUsed d) d.book.constraints u.used used.0 u.are_used used.1)))
     ]
 
-not_reached_known : (d : Draft) (s : Statement) → Keeps d → Known (IsNotReached d s)
+not_reached_known : (d : Draft) (s : ProofPhrase) → Keeps d → Known (IsNotReached d s)
 not_reached_known d (Wipe name) keeps =
     asked_of_variable d.book.variables name (λ x. IsReached d.book d.proved (Conflict x) → ⊥) keeps.names.variables (λ x. known_not (reached_known d.book d.proved (Conflict x)))
 not_reached_known d (Users names) keeps = known_not (users_known d names keeps)
@@ -231,15 +228,15 @@ not_reached_known d _ keeps = known_never
 
 -- ---- a line
 
-meets_known : (d : Draft) (s : Statement) → Keeps d → (cause : Cause) → Known (Meets d s cause)
-meets_known d s keeps Malformed = known_not (stand_known d.stage s)
+meets_known : (d : Draft) (s : ProofPhrase) → Keeps d → (cause : Cause) → Known (MeetsPhrase d s cause)
+meets_known d s keeps Malformed = known_never
 meets_known d s keeps Misdeclared = misdeclared_known d s
-meets_known d s keeps Beyond = limits_known d s
+meets_known d s keeps Beyond = known_never
 meets_known d s keeps Unproved = unproved_known d s
 meets_known d s keeps NotRight = not_right_known d s keeps.names.variables
 meets_known d s keeps NotReached = not_reached_known d s keeps
 
-told_end : (stage : Stage) → ((MayStand stage End → ⊥) → ⊥) → (users : List Cid) × (stage ≡ Told users)
+told_end : (stage : Stage) → ((MayFollow stage End → ⊥) → ⊥) → (users : List Cid) × (stage ≡ Told users)
 told_end (Told users) twice = (users, refl)
 told_end _ twice = absurd (twice (λ h. h))
 
@@ -257,14 +254,9 @@ noted d (By name reasons) named =
 noted d Assumed named = (d.begun, refl)
 noted d (OfLemma number) named = (record d.begun { lemmas = d.begun.lemmas ++ number ∷ [] }, refl)
 
--- a line without a cause leads to a draft
-leads_on : (d : Draft) (s : Statement) → Keeps d → IsNone (Meets d s) in_order → (e : Draft) × Leads d s e
-leads_on d Comment keeps none = (d, refl)
+-- a phrase without a cause leads to a draft
+leads_on : (d : Draft) (s : ProofPhrase) → Keeps d → IsNone (Meets d (Phrase s)) in_order → (e : Draft) × Leads d s e
 leads_on d Header keeps none = (at_stage d Declaring, refl)
-leads_on d (Variable name domain) keeps none = (with_variable d name (values_in domain), refl)
-leads_on d (Constraint name shape) keeps none =
-    let r = constraint_with d.book.variables shape (named_all d.book.variables (names_of shape) (λ a. none.1.0 (inr a))) in
-    (with_constraint d name r.0, (r.0, r.1, refl))
 leads_on d (LemmaLine named) keeps none =
     let Undeclared : NamedPair → Type 0 = λ p. IsDeclared d.book.variables p.name p.value → ⊥ in
     let pairs = has_pairs d.book.variables named (λ p m. settled (declared_known d.book.variables p.name p.value) (λ n. none.1.0 (inl (any_member Undeclared named p m n)))) in
@@ -281,13 +273,13 @@ leads_on d End keeps none = let users = told_end d.stage none.0 in (at_stage d (
 
 -- ---- texts
 
-proofs_known : IsKnown proofs Keeps
-proofs_known = record {
-  kept = keeps_leads;
-  said = λ line. elim (each_said line) [ inl said ↦ inl said | inr none ↦ inr (λ r. none r.0 r.1) ];
-  meets = λ d line s keeps says cause. meets_known d s keeps cause;
-  leads = λ d line s keeps says none. leads_on d s keeps none;
+phrases_known : ArePhrasesKnown of_proofs Keeps
+phrases_known = record {
+  may_stand = λ d s. stand_known d.stage s;
+  meets = meets_known;
+  leads = leads_on;
 }
 
 pub each_judged : (bytes : List ℕ) → (verdict : ProofVerdict) × IsVerdict bytes verdict
-each_judged bytes = has_verdict Draft Statement ProofVerdict proofs Keeps proofs_known blank bytes keeps_blank
+each_judged bytes =
+    has_verdict Draft (Statement ProofPhrase) ProofVerdict proofs Keeps (is_known of_proofs Keeps phrases_known are_phrases keeps_leads) blank bytes keeps_blank

@@ -1,11 +1,9 @@
 -- The stages at which a line may stand.
-use Rattle.std.proofs.Common.{◌≡◌, ℕ, List, refl}
+use Rattle.std.proofs.Common.{◌≡◌, refl}
 use Rattle.std.specs.Bool.{⊤}
-use Rattle.palm_read.specs.declared.line.Shape.{Shape}
-use Rattle.proof_text.specs.Draft.{MayStand}
+use Rattle.proof_text.specs.Draft.{MayList}
 use Rattle.proof_text.specs.declared.statement.Stage.{Stage}
 use Rattle.proof_text.specs.declared.statement.Stage.TheVariants.{Unopened, Declaring, Listing, Reasoning, Wiped, Told, Closed}
-use Rattle.proof_text.specs.declared.statement.Statement.TheVariants.{Constraint}
 
 -- no lemma stands before the constraints end
 abbrev pub IsEarly : Stage → Type 0
@@ -14,14 +12,14 @@ IsEarly Declaring = ⊤
 IsEarly Listing = ⊤
 IsEarly _ = ⊥
 
-pub early_constraint : (stage : Stage) (name : List ℕ) (shape : Shape) → ((MayStand stage (Constraint name shape) → ⊥) → ⊥) → IsEarly stage
-early_constraint Unopened name shape h = tt
-early_constraint Declaring name shape h = tt
-early_constraint Listing name shape h = tt
-early_constraint Reasoning name shape h = h (λ e. e)
-early_constraint Wiped name shape h = h (λ e. e)
-early_constraint (Told users) name shape h = h (λ e. e)
-early_constraint (Closed users) name shape h = h (λ e. e)
+pub early_constraint : (stage : Stage) → ((MayList stage → ⊥) → ⊥) → IsEarly stage
+early_constraint Unopened h = tt
+early_constraint Declaring h = tt
+early_constraint Listing h = tt
+early_constraint Reasoning h = h (λ e. e)
+early_constraint Wiped h = h (λ e. e)
+early_constraint (Told users) h = h (λ e. e)
+early_constraint (Closed users) h = h (λ e. e)
 
 -- ---- a stage that is not refuted to be this one is this one
 

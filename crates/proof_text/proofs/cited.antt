@@ -2,6 +2,5 @@
 pub mod Accepted
 pub mod Names
 pub mod Phrases
-pub mod Saying
 pub mod Unique
 pub mod Using

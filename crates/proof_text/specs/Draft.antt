@@ -5,20 +5,21 @@ use Rattle.palm_base.specs.declared.terms.Cid.{Cid}
 use Rattle.palm_base.specs.declared.terms.Cid.TheVariants.{User}
 use Rattle.palm_book.specs.Book.{BookVar, Contents, with_listed}
 use Rattle.palm_book.specs.Book as in_book
-use Rattle.palm_book.specs.Named.{IsPair, Resolves}
+use Rattle.palm_book.specs.Named.{IsPair}
 use Rattle.palm_book.specs.declared.book.BookCon.{BookCon}
 use Rattle.palm_model.specs.declared.constraint.Con.{Con}
-use Rattle.palm_read.specs.Domain.{values_in}
 use Rattle.palm_claim.specs.Step.{Given}
 use Rattle.palm_claim.specs.declared.ground.Ground.{Ground}
 use Rattle.palm_claim.specs.declared.ground.Ground.TheVariants.{By, Assumed, OfLemma}
+use Rattle.palm_claim.specs.declared.statement.Statement.{Statement}
+use Rattle.palm_claim.specs.declared.statement.Statement.TheVariants.{Comment, Variable, Constraint, Phrase}
 use Rattle.proof_text.specs.Users.{AreUsed}
 use Rattle.proof_text.specs.declared.lemma.Lemma.{Lemma}
 use Rattle.proof_text.specs.declared.statement.NamedPair.{NamedPair}
 use Rattle.proof_text.specs.declared.statement.Stage.{Stage}
 use Rattle.proof_text.specs.declared.statement.Stage.TheVariants.{Unopened, Declaring, Listing, Reasoning, Wiped, Told, Closed}
-use Rattle.proof_text.specs.declared.statement.Statement.{Statement}
-use Rattle.proof_text.specs.declared.statement.Statement.TheVariants.{Comment, Header, Variable, Constraint, Lemma as LemmaLine, Step, Wipe, Users, End}
+use Rattle.proof_text.specs.declared.statement.ProofPhrase.{ProofPhrase}
+use Rattle.proof_text.specs.declared.statement.ProofPhrase.TheVariants.{Header, Lemma as LemmaLine, Step, Wipe, Users, End}
 
 -- a part of a proof: how far it has come, its variables and constraints, the lemmas that are done, and of the lemma begun
 -- what it has so far, and the pair that each of its steps proved
@@ -43,24 +44,32 @@ given_in d = record { pairs = d.begun.pairs; lemmas = map (λ l. l.pairs) d.lemm
 
 -- ---- the order of the lines
 
--- a line that says this may stand there: the header first, then variables, constraints, lemmas each of which ends with its
--- wipe, the users and the end
-abbrev pub MayStand : Stage → Statement → Type 0
+-- a constraint may stand there: behind the header and before the lemmas
+abbrev pub MayList : Stage → Type 0
+MayList Declaring = ⊤
+MayList Listing = ⊤
+MayList _ = ⊥
+
+-- the phrase may stand there: the header first, then lemmas behind what is listed, each of which ends with its wipe, the users
+-- and the end
+abbrev pub MayFollow : Stage → ProofPhrase → Type 0
+MayFollow stage Header = stage ≡ Unopened
+MayFollow Declaring (LemmaLine pairs) = ⊤
+MayFollow Listing (LemmaLine pairs) = ⊤
+MayFollow Wiped (LemmaLine pairs) = ⊤
+MayFollow stage (LemmaLine pairs) = ⊥
+MayFollow stage (Step name value why) = stage ≡ Reasoning
+MayFollow stage (Wipe name) = stage ≡ Reasoning
+MayFollow stage (Users names) = stage ≡ Wiped
+MayFollow (Told users) End = ⊤
+MayFollow stage End = ⊥
+
+-- so may a line that says this
+abbrev pub MayStand : Stage → Statement ProofPhrase → Type 0
 MayStand stage Comment = ⊤
-MayStand stage Header = stage ≡ Unopened
 MayStand stage (Variable name domain) = stage ≡ Declaring
-MayStand Declaring (Constraint name shape) = ⊤
-MayStand Listing (Constraint name shape) = ⊤
-MayStand stage (Constraint name shape) = ⊥
-MayStand Declaring (LemmaLine pairs) = ⊤
-MayStand Listing (LemmaLine pairs) = ⊤
-MayStand Wiped (LemmaLine pairs) = ⊤
-MayStand stage (LemmaLine pairs) = ⊥
-MayStand stage (Step name value why) = stage ≡ Reasoning
-MayStand stage (Wipe name) = stage ≡ Reasoning
-MayStand stage (Users names) = stage ≡ Wiped
-MayStand (Told users) End = ⊤
-MayStand stage End = ⊥
+MayStand stage (Constraint name shape) = MayList stage
+MayStand stage (Phrase phrase) = MayFollow stage phrase
 
 -- ---- what a line adds
 
@@ -97,12 +106,9 @@ Notes d (By name reasons) lemma = (c : BookCon) × Contains d.book.constraints c
 Notes d Assumed lemma = lemma ≡ d.begun
 Notes d (OfLemma number) lemma = lemma ≡ record d.begun { lemmas = d.begun.lemmas ++ number ∷ [] }
 
--- the draft behind a line that says this
-abbrev pub Leads : Draft → Statement → Draft → Type 0
-Leads d Comment e = e ≡ d
+-- the draft behind the phrase
+abbrev pub Leads : Draft → ProofPhrase → Draft → Type 0
 Leads d Header e = e ≡ at_stage d Declaring
-Leads d (Variable name domain) e = e ≡ with_variable d name (values_in domain)
-Leads d (Constraint name shape) e = (con : Con) × Resolves d.book.variables shape con × (e ≡ with_constraint d name con)
 Leads d (LemmaLine named) e = (pairs : List Pair) × ArePairs d.book.variables named pairs × (e ≡ with_lemma d pairs)
 Leads d (Step name value why) e = (pair : Pair) × (lemma : Lemma) × IsPair d.book.variables name value pair × Notes d why lemma × (e ≡ with_step d pair lemma)
 Leads d (Wipe name) e = e ≡ with_wipe d

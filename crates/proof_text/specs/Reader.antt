@@ -1,28 +1,17 @@
 -- Readers of the forms that only proofs have. That they read just these forms is proved of them.
-use Rattle.std.specs.Prelude.{ℕ, nat_le, Bool, false, ◌&&◌, ◌||◌, Option, Some, None, List, codes}
+use Rattle.std.specs.Prelude.{ℕ, nat_le, Bool, ◌&&◌, ◌||◌, Option, Some, None, List, codes}
 use Rattle.std.specs.Str.{bytes_eq}
 use Rattle.palm_read.specs.Piece.{digits_number}
 use Rattle.palm_read.specs.Reader.Lists.{many_at, names_at}
-use Rattle.palm_read.specs.Reader.Steps.{Reading, ◌>>=◌, when, choose, is_empty, front_text, token_at, behind, keyword_at, mark_at, name_at}
+use Rattle.palm_read.specs.Reader.Steps.{Reading, ◌>>=◌, when, choose, token_at, behind, keyword_at, mark_at, name_at}
 use Rattle.palm_read.specs.Token.{Lexeme}
-use Rattle.palm_read.specs.declared.line.Line.{Line}
-use Rattle.palm_read.specs.declared.line.Line.TheVariants.{Comment as CommentLine, Var, Add}
-use Rattle.palm_read.specs.declared.tokens.TokenKind.TheVariants.{Word, Digits}
+use Rattle.palm_read.specs.declared.tokens.TokenKind.TheVariants.{Digits}
 use Rattle.palm_claim.specs.Reader.{reasons_at, value_at}
 use Rattle.palm_claim.specs.declared.ground.Ground.{Ground}
 use Rattle.palm_claim.specs.declared.ground.Ground.TheVariants.{By, Assumed, OfLemma}
 use Rattle.proof_text.specs.declared.statement.NamedPair.{NamedPair}
-use Rattle.proof_text.specs.declared.statement.Statement.{Statement}
-use Rattle.proof_text.specs.declared.statement.Statement.TheVariants.{Comment, Header, Variable, Constraint, Lemma, Step, Wipe, Users, End}
-
--- ---- lines of a session
-
--- what a line of a session says in a proof, if anything
-abbrev pub of_line : Line → Option Statement
-of_line CommentLine = Some Comment
-of_line (Var name domain) = Some (Variable name domain)
-of_line (Add name shape) = Some (Constraint name shape)
-of_line _ = None
+use Rattle.proof_text.specs.declared.statement.ProofPhrase.{ProofPhrase}
+use Rattle.proof_text.specs.declared.statement.ProofPhrase.TheVariants.{Header, Lemma, Step, Wipe, Users, End}
 
 -- ---- grounds
 
@@ -65,29 +54,29 @@ next_pair tokens = when (name_at tokens)
       Some (Some (record { name = name.0; value = value.0 }), value.1))
     (Some (None, tokens))
 
-unfoldable pub lemma_at : List Lexeme → Reading Statement
+unfoldable pub lemma_at : List Lexeme → Reading ProofPhrase
 lemma_at tokens = do
   pairs ← many_at next_pair tokens
   Some (Lemma pairs.0, pairs.1)
 
-unfoldable pub step_at : List Lexeme → Reading Statement
+unfoldable pub step_at : List Lexeme → Reading ProofPhrase
 step_at tokens = do
   name ← name_at tokens
   value ← value_at name.1
   why ← ground_at value.1
   Some (Step name.0 value.0 why.0, why.1)
 
-unfoldable pub wipe_at : List Lexeme → Reading Statement
+unfoldable pub wipe_at : List Lexeme → Reading ProofPhrase
 wipe_at tokens = do
   name ← name_at tokens
   Some (Wipe name.0, name.1)
 
-unfoldable pub users_at : List Lexeme → Reading Statement
+unfoldable pub users_at : List Lexeme → Reading ProofPhrase
 users_at tokens = do
   names ← names_at 0 tokens
   Some (Users names.0, names.1)
 
-unfoldable pub header_at : List Lexeme → Reading Statement
+unfoldable pub header_at : List Lexeme → Reading ProofPhrase
 header_at tokens = do
   first ← keyword_at (codes "palm") tokens
   second ← mark_at (codes "-") first
@@ -95,7 +84,7 @@ header_at tokens = do
   rest ← behind Digits (codes "1") third
   Some (Header, rest)
 
-unfoldable pub phrase_at : List Lexeme → Reading Statement
+unfoldable pub phrase_at : List Lexeme → Reading ProofPhrase
 phrase_at tokens =
     when (keyword_at (codes "step") tokens) step_at
     (when (keyword_at (codes "lemma") tokens) lemma_at
@@ -103,14 +92,6 @@ phrase_at tokens =
     (when (keyword_at (codes "none") tokens) users_at
     (when (keyword_at (codes "end") tokens) (λ rest. Some (End, rest))
     (header_at tokens)))))
-
--- the form of all tokens of a line
-unfoldable pub phrase_of : List Lexeme → Option Statement
-phrase_of tokens = do
-  phrase ← phrase_at tokens
-  choose (is_empty phrase.1) (Some phrase.0) None
-
--- ---- the first word
 
 -- the first words of these forms
 abbrev pub is_lead : List ℕ → Bool
@@ -121,11 +102,3 @@ is_lead w =
     || (bytes_eq w (codes "none")
     || (bytes_eq w (codes "end")
     || bytes_eq w (codes "palm")))))
-
-abbrev pub is_some_lead : Option (List ℕ) → Bool
-is_some_lead None = false
-is_some_lead (Some w) = is_lead w
-
--- the token in front is one of them
-unfoldable pub begins_phrase : List Lexeme → Bool
-begins_phrase tokens = is_some_lead (front_text Word tokens)

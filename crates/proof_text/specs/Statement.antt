@@ -1,20 +1,19 @@
--- What a line of a proof says. Comments, variables and constraints are written as in a session of version 2; the other
--- forms are those of this file.
+-- What a line of a proof says: its phrases are those of this file.
 use Rattle.std.specs.Prelude.{◌≡◌, ℕ, ℤ, List, [], ◌∷◌, map, flat_map, All, codes, ⊤}
 use Rattle.palm_model.specs.Limits.{IsValue}
 use Rattle.palm_read.specs.Bounds.{IsFromOneTo}
-use Rattle.palm_read.specs.Bytes.{IsComment, IsPlain}
 use Rattle.palm_read.specs.Piece.{Piece, Keyword, Named, Mark, Integer, Natural, Spells, numeral, word, sign}
-use Rattle.palm_read.specs.Reading.{IsRead}
-use Rattle.palm_read.specs.Token.{Lexeme, tokens_of}
-use Rattle.palm_read.specs.declared.line.Line.TheVariants.{Var, Add}
-use Rattle.palm_read.specs.declared.mode.Mode.TheVariants.{Two}
+use Rattle.palm_read.specs.Token.{Lexeme}
+use Rattle.palm_claim.specs.Phrases as of_texts
+use Rattle.palm_claim.specs.Phrases.{Phrases}
 use Rattle.palm_claim.specs.Statement.{IsStepNumber, reasons_pieces}
 use Rattle.palm_claim.specs.declared.ground.Ground.{Ground}
 use Rattle.palm_claim.specs.declared.ground.Ground.TheVariants.{By, Assumed, OfLemma}
 use Rattle.proof_text.specs.declared.statement.NamedPair.{NamedPair}
-use Rattle.proof_text.specs.declared.statement.Statement.{Statement}
-use Rattle.proof_text.specs.declared.statement.Statement.TheVariants.{Comment, Header, Variable, Constraint, Lemma, Step, Wipe, Users, End}
+use Rattle.palm_claim.specs.declared.statement.Statement.{Statement}
+use Rattle.proof_text.specs.Reader.{is_lead, phrase_at}
+use Rattle.proof_text.specs.declared.statement.ProofPhrase.{ProofPhrase}
+use Rattle.proof_text.specs.declared.statement.ProofPhrase.TheVariants.{Header, Lemma, Step, Wipe, Users, End}
 
 -- "palm" "-" "proof" "1", the last without leading zeros
 abbrev pub header : List Lexeme
@@ -46,15 +45,14 @@ wipe_pieces name = Keyword (codes "wipe") ∷ Named name ∷ []
 abbrev pub users_pieces : List (List ℕ) → List Piece
 users_pieces names = Keyword (codes "none") ∷ map Named names
 
--- the tokens are those of a form that only proofs have
-abbrev pub IsSpelled : List Lexeme → Statement → Type 0
+-- the tokens are those of the phrase
+abbrev pub IsSpelled : List Lexeme → ProofPhrase → Type 0
 IsSpelled tokens Header = tokens ≡ header
 IsSpelled tokens (Lemma pairs) = Spells tokens (lemma_pieces pairs)
 IsSpelled tokens (Step name value why) = Spells tokens (step_pieces name value why)
 IsSpelled tokens (Wipe name) = Spells tokens (wipe_pieces name)
 IsSpelled tokens (Users names) = Spells tokens (users_pieces names)
 IsSpelled tokens End = Spells tokens (Keyword (codes "end") ∷ [])
-IsSpelled tokens _ = ⊥
 
 -- a number that may stand behind `lemma`: one of 64 bits
 abbrev pub IsLemmaNumber : ℕ → Type 0
@@ -66,15 +64,16 @@ IsGroundInRange (By name reasons) = All IsStepNumber reasons
 IsGroundInRange Assumed = ⊤
 IsGroundInRange (OfLemma number) = IsLemmaNumber number
 
--- the numbers of the statement are in their ranges
-abbrev pub AreInRange : Statement → Type 0
+-- the numbers of the phrase are in their ranges
+abbrev pub AreInRange : ProofPhrase → Type 0
 AreInRange (Lemma pairs) = All (λ p. IsValue p.value) pairs
 AreInRange (Step name value why) = IsValue value × IsGroundInRange why
 AreInRange _ = ⊤
 
+-- the phrases of proofs
+abbrev pub phrases : Phrases ProofPhrase
+phrases = record { is_lead = is_lead; phrase_at = phrase_at; IsSpelled = IsSpelled; AreInRange = AreInRange }
+
 -- what a line says
-abbrev pub Says : List ℕ → Statement → Type 0
-Says line Comment = IsComment line
-Says line (Variable name domain) = IsRead Two line (Var name domain)
-Says line (Constraint name shape) = IsRead Two line (Add name shape)
-Says line statement = IsPlain line × IsSpelled (tokens_of line) statement × AreInRange statement
+abbrev pub Says : List ℕ → Statement ProofPhrase → Type 0
+Says line statement = of_texts.Says phrases line statement

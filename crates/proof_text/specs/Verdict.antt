@@ -1,31 +1,31 @@
 -- The verdict on a text: the first line that has a cause, with its first cause, or that it is accepted.
-use Rattle.std.specs.Prelude.{◌≡◌, ℕ, ◌<◌, ◌≤◌, ◌⊎◌, List, [], ◌∷◌, length, map, All, Any, ⊤}
+use Rattle.std.specs.Prelude.{◌≡◌, ℕ, ◌<◌, ◌⊎◌, List, [], ◌∷◌, length, map, All, Any, ⊤}
 use Rattle.palm_base.specs.declared.terms.Pair.{Pair}
 use Rattle.palm_book.specs.Book.{Contents, HasConstraint, HasVariable}
-use Rattle.palm_book.specs.Named.{IsDeclared, IsPair, IsUnknownName, IsVariable}
+use Rattle.palm_book.specs.Named.{IsDeclared, IsPair, IsVariable}
 use Rattle.palm_book.specs.declared.book.BookCon.{BookCon}
-use Rattle.palm_book.specs.declared.limits.TheConstants.{MOST_VARIABLES, MOST_CONSTRAINTS}
-use Rattle.palm_read.specs.Limits.{IsBeyond, names_of}
-use Rattle.palm_read.specs.declared.line.Line.TheVariants.{Var, Add}
 use Rattle.palm_claim.specs.Judging.{Family, IsVerdictFrom}
+use Rattle.palm_claim.specs.Own as of_texts
+use Rattle.palm_claim.specs.Own.{Own, family_of}
 use Rattle.palm_claim.specs.Step.{IsReached, IsRightBy}
 use Rattle.palm_claim.specs.declared.ground.Ground.{Ground}
 use Rattle.palm_claim.specs.declared.ground.Ground.TheVariants.{By, Assumed, OfLemma}
 use Rattle.palm_claim.specs.declared.verdict.Cause.{Cause}
-use Rattle.palm_claim.specs.declared.verdict.Cause.TheVariants.{Malformed, Misdeclared, Beyond, Unproved, NotRight, NotReached}
+use Rattle.palm_claim.specs.declared.verdict.Cause.TheVariants.{Misdeclared, Unproved, NotRight, NotReached}
 use Rattle.palm_claim.specs.declared.verdict.Claim.TheVariants.{Conflict}
 use Rattle.proof_text.specs.Draft.{Draft, Leads, MayStand, blank, given_in}
-use Rattle.proof_text.specs.Statement.{Says}
+use Rattle.proof_text.specs.Statement.{phrases}
 use Rattle.proof_text.specs.Users.{AreUsed}
 use Rattle.proof_text.specs.declared.statement.NamedPair.{NamedPair}
 use Rattle.proof_text.specs.declared.statement.Stage.{Stage}
-use Rattle.proof_text.specs.declared.statement.Stage.TheVariants.{Closed}
-use Rattle.proof_text.specs.declared.statement.Statement.{Statement}
-use Rattle.proof_text.specs.declared.statement.Statement.TheVariants.{Variable, Constraint, Lemma, Step, Wipe, Users}
+use Rattle.proof_text.specs.declared.statement.Stage.TheVariants.{Closed, Listing}
+use Rattle.palm_claim.specs.declared.statement.Statement.{Statement}
+use Rattle.proof_text.specs.declared.statement.ProofPhrase.{ProofPhrase}
+use Rattle.proof_text.specs.declared.statement.ProofPhrase.TheVariants.{Lemma, Step, Wipe, Users}
 use Rattle.proof_text.specs.declared.verdict.ProofVerdict.{ProofVerdict}
 use Rattle.proof_text.specs.declared.verdict.ProofVerdict.TheVariants.{Accepted, Refused}
 
--- ---- the causes of a line that says something
+-- ---- the causes of a phrase
 
 -- no variable stands twice
 abbrev pub AreApart : List NamedPair → Type 0
@@ -37,21 +37,13 @@ abbrev pub IsUnknownGround : Draft → Ground → Type 0
 IsUnknownGround d (By name reasons) = HasConstraint d.book name → ⊥
 IsUnknownGround d _ = ⊥
 
--- a name or a value is not declared, a name is declared a second time among its like, or a variable stands twice in a lemma
-abbrev pub IsMisdeclared : Draft → Statement → Type 0
-IsMisdeclared d (Variable name domain) = HasVariable d.book name
-IsMisdeclared d (Constraint name shape) = HasConstraint d.book name ⊎ Any (IsUnknownName d.book.variables) (names_of shape)
+-- a name or a value is not declared, or a variable stands twice in a lemma
+abbrev pub IsMisdeclared : Draft → ProofPhrase → Type 0
 IsMisdeclared d (Lemma pairs) = Any (λ p. IsDeclared d.book.variables p.name p.value → ⊥) pairs ⊎ (AreApart pairs → ⊥)
 IsMisdeclared d (Step name value why) = (IsDeclared d.book.variables name value → ⊥) ⊎ IsUnknownGround d why
 IsMisdeclared d (Wipe name) = HasVariable d.book name → ⊥
 IsMisdeclared d (Users names) = Any (λ name. HasConstraint d.book name → ⊥) names
 IsMisdeclared d _ = ⊥
-
--- a limit on how many there may be is broken, the proof's own variables and constraints counted
-abbrev pub IsBeyondLimits : Draft → Statement → Type 0
-IsBeyondLimits d (Variable name domain) = IsBeyond (Var name domain) ⊎ (MOST_VARIABLES ≤ length d.book.variables)
-IsBeyondLimits d (Constraint name shape) = IsBeyond (Add name shape) ⊎ (MOST_CONSTRAINTS ≤ length d.book.constraints)
-IsBeyondLimits d _ = ⊥
 
 -- the number of a step is not below the step's own, or that of a lemma is not below the lemma's own
 abbrev pub IsUnprovedGround : Draft → Ground → Type 0
@@ -59,12 +51,12 @@ IsUnprovedGround d (By name reasons) = Any (λ k. length d.proved < k) reasons
 IsUnprovedGround d Assumed = ⊥
 IsUnprovedGround d (OfLemma number) = length d.lemmas < number
 
-abbrev pub HasUnproved : Draft → Statement → Type 0
+abbrev pub HasUnproved : Draft → ProofPhrase → Type 0
 HasUnproved d (Step name value why) = IsUnprovedGround d why
 HasUnproved d _ = ⊥
 
 -- the step is not right
-abbrev pub IsNotRight : Draft → Statement → Type 0
+abbrev pub IsNotRight : Draft → ProofPhrase → Type 0
 IsNotRight d (Step name value why) = (pair : Pair) × IsPair d.book.variables name value pair × (IsRightBy d.book (given_in d) d.proved pair why → ⊥)
 IsNotRight d _ = ⊥
 
@@ -76,19 +68,18 @@ pub record AreUsers (d : Draft) (names : List (List ℕ)) : Type 0 where
   pub named : names ≡ map (λ c. c.name) used
 
 -- the wipe or the end is not reached
-abbrev pub IsNotReached : Draft → Statement → Type 0
+abbrev pub IsNotReached : Draft → ProofPhrase → Type 0
 IsNotReached d (Wipe name) = (x : ℕ) × IsVariable d.book.variables name x × (IsReached d.book d.proved (Conflict x) → ⊥)
 IsNotReached d (Users names) = AreUsers d names → ⊥
 IsNotReached d _ = ⊥
 
--- the condition of a cause
-abbrev pub Meets : Draft → Statement → Cause → Type 0
-Meets d statement Malformed = MayStand d.stage statement → ⊥
-Meets d statement Misdeclared = IsMisdeclared d statement
-Meets d statement Beyond = IsBeyondLimits d statement
-Meets d statement Unproved = HasUnproved d statement
-Meets d statement NotRight = IsNotRight d statement
-Meets d statement NotReached = IsNotReached d statement
+-- the condition of a cause, other than that it may not stand there
+abbrev pub MeetsPhrase : Draft → ProofPhrase → Cause → Type 0
+MeetsPhrase d phrase Misdeclared = IsMisdeclared d phrase
+MeetsPhrase d phrase Unproved = HasUnproved d phrase
+MeetsPhrase d phrase NotRight = IsNotRight d phrase
+MeetsPhrase d phrase NotReached = IsNotReached d phrase
+MeetsPhrase d phrase _ = ⊥
 
 -- ---- the text
 
@@ -97,9 +88,27 @@ abbrev pub ending : Stage → Contents → ℕ → ProofVerdict
 ending (Closed users) book n = Accepted book users
 ending stage book n = Refused n NotReached
 
+-- what is the own of proofs among all such texts
+abbrev pub of_proofs : Own Draft ProofPhrase ProofVerdict
+of_proofs = record {
+  phrases = phrases;
+  book = λ d. d.book;
+  MayStand = λ d statement. MayStand d.stage statement;
+  declared = λ d book. record d { book = book };
+  listed = λ d book. record d { stage = Listing; book = book };
+  MeetsPhrase = MeetsPhrase;
+  LeadsPhrase = Leads;
+  ending = λ d n. ending d.stage d.book n;
+  refused = λ n cause. Refused n cause;
+}
+
 -- proofs
-abbrev pub proofs : Family Draft Statement ProofVerdict
-proofs = record { Says = Says; Meets = Meets; Leads = Leads; ending = λ d n. ending d.stage d.book n; refused = λ n cause. Refused n cause }
+abbrev pub proofs : Family Draft (Statement ProofPhrase) ProofVerdict
+proofs = family_of of_proofs
+
+-- the condition of a cause, of what a line says
+abbrev pub Meets : Draft → Statement ProofPhrase → Cause → Type 0
+Meets d statement cause = of_texts.Meets of_proofs d statement cause
 
 -- the verdict on a text
 abbrev pub IsVerdict : List ℕ → ProofVerdict → Type 0

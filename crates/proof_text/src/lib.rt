@@ -14,5 +14,5 @@ pub use laws::{
 };
 pub use lemma::{Lemma, LemmaList, LemmaNumberList, NumberList, PairList};
 pub use palm_claim::Cause;
-pub use statement::{NamedPair, NamedPairList, Stage, Statement};
+pub use statement::{NamedPair, NamedPairList, ProofPhrase, Stage};
 pub use verdict::ProofVerdict;

@@ -1,7 +1,7 @@
 //! What a line of a proof says, and how far a proof has come.
 use palm_base::{CidList, Sequence, Value};
 use palm_claim::Ground;
-use palm_read::{DomainText, Name, NameList, Shape};
+use palm_read::{Name, NameList};
 
 /// `NAME=VALUE`
 #[derive(Debug, Drop)]
@@ -13,23 +13,11 @@ pub struct NamedPair {
 /// Pairs by name.
 pub type NamedPairList = Sequence<NamedPair>;
 
-/// What a line of a proof says.
+/// What only a line of a proof says.
 #[derive(Debug, Drop)]
-pub enum Statement {
-    /// A blank line, or one whose first byte that is no blank is `#`.
-    Comment,
+pub enum ProofPhrase {
     /// `palm-proof 1`
     Header,
-    /// `var NAME DOMAIN`
-    Variable {
-        name: Name,
-        domain: DomainText,
-    },
-    /// `add NAME : CONSTRAINT`
-    Constraint {
-        name: Name,
-        shape: Shape,
-    },
     /// `lemma NAME=VALUE NAME=VALUE`, or `lemma` alone
     Lemma(NamedPairList),
     /// `step NAME VALUE`, and its ground

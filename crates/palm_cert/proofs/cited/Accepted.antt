@@ -20,7 +20,8 @@ use Rattle.palm_claim.specs.Verdict.{certificates, ending}
 use Rattle.palm_claim.specs.declared.statement.Stage.TheVariants.{Closed}
 use Rattle.palm_claim.specs.declared.verdict.Claim.{Claim}
 use Rattle.palm_claim.specs.declared.verdict.Claim.TheVariants.{Conflict, Gone}
-use Rattle.palm_claim.specs.declared.statement.Statement.TheVariants.{ConflictClaim, ValueClaim}
+use Rattle.palm_claim.specs.declared.statement.CertificatePhrase.TheVariants.{ConflictClaim, ValueClaim}
+use Rattle.palm_claim.specs.declared.statement.Statement.TheVariants.{Phrase}
 use Rattle.palm_claim.specs.declared.verdict.Verdict.TheVariants.{Accepted}
 use Rattle.palm_base.proofs.cited.CidOrder.{same_cid_itself}
 use Rattle.palm_lang.specs.Reply.{fixed_text}
@@ -129,8 +130,8 @@ module _ (book : Contents) (us : List ℕ) (cs acc : List BookCon) (are : AreDec
   }
     where
       claims : (claim : Claim) → Contains us (claim_var claim) → claim_statement (own book us cs acc are lists).variables (other_claim book us cs acc are lists claim) ≡ claim_statement book.variables claim
-      claims (Gone pair) used = ap (λ (name : List ℕ). ValueClaim name pair.value) (place_name book.variables us pair.var used)
-      claims (Conflict x) used = ap (λ (name : List ℕ). ConflictClaim name) (place_name book.variables us x used)
+      claims (Gone pair) used = ap (λ (name : List ℕ). Phrase (ValueClaim name pair.value)) (place_name book.variables us pair.var used)
+      claims (Conflict x) used = ap (λ (name : List ℕ). Phrase (ConflictClaim name)) (place_name book.variables us x used)
 
       over : (claim : Claim) → Contains us (claim_var claim) → IsOver (own book us cs acc are lists) (other_claim book us cs acc are lists claim)
       over (Gone pair) used = place_declared book.variables us pair.var used

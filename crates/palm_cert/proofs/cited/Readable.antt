@@ -13,7 +13,8 @@ use Rattle.palm_book.specs.declared.book.BookCon.{BookCon}
 use Rattle.palm_book.proofs.cited.Any.{any_cases, any_member, any_none}
 use Rattle.palm_book.proofs.cited.WellFormed.{named_near}
 use Rattle.palm_claim.specs.Statement.{IsStepNumber, Says, header}
-use Rattle.palm_claim.specs.declared.statement.Statement.TheVariants.{End, Header, Step}
+use Rattle.palm_claim.specs.declared.statement.CertificatePhrase.TheVariants.{End, Header, Step}
+use Rattle.palm_claim.specs.declared.statement.Statement.TheVariants.{Phrase}
 use Rattle.palm_claim.specs.declared.verdict.Claim.{Claim}
 use Rattle.palm_claim.specs.declared.verdict.Claim.TheVariants.{Gone, Conflict}
 use Rattle.palm_model.specs.Constraint.{IsWellFormed, scope}
@@ -47,10 +48,10 @@ header_tokens : tokens_of (codes "palm-cert 1") ≡ header
 unfolding tokens_of kind_at more_at lexeme_at
 header_tokens = refl
 
-header_says : Says (codes "palm-cert 1") Header
+header_says : Says (codes "palm-cert 1") (Phrase Header)
 header_says = (record { short = omega arith; says = refl; plain = AllPass-from_list_all is_plain (codes "palm-cert 1") refl }, header_tokens, tt)
 
-end_says : Says (codes "end") End
+end_says : Says (codes "end") (Phrase End)
 end_says =
     let words = words_keyword (codes "end") refl words_none in
     (record { short = omega arith; says = refl; plain = words_plain (codes "end" ∷ []) (Keyword (codes "end") ∷ []) words }, words_spell (codes "end" ∷ []) (Keyword (codes "end") ∷ []) words, tt)
@@ -149,7 +150,7 @@ module _ (s : EngineState) (book : Contents) (is : IsBook book) (valid : IsValid
         (number_text book.constraints c.0.number is.constraint_names (any_member (λ (d : BookCon). d.number ≡ c.0.number) book.constraints c.0 c.1 refl))
 
     step_readable : (r : Removal) → Contains (steps_of s.log pairs) r → Says (spaced (step_words book.variables r.pair (user_name book.constraints r.by) (numbers_of (steps_of s.log pairs) r.reasons)))
-        (Step (name_of book.variables r.pair.var) r.pair.value (user_name book.constraints r.by) (numbers_of (steps_of s.log pairs) r.reasons))
+        (Phrase (Step (name_of book.variables r.pair.var) r.pair.value (user_name book.constraints r.by) (numbers_of (steps_of s.log pairs) r.reasons)))
     step_readable r m =
         let steps = steps_of s.log pairs in
         let by = user_name book.constraints r.by in

@@ -4,7 +4,8 @@ use Rattle.std.proofs.lemmas.List.Elements.{All-head, All-tail}
 use Rattle.palm_base.specs.declared.terms.Pair.{Pair}
 use Rattle.palm_book.specs.Book.{BookVar, name_of}
 use Rattle.palm_claim.specs.Statement.{IsStepNumber, Says, conflict_claim_pieces, reasons_pieces, step_pieces, value_claim_pieces}
-use Rattle.palm_claim.specs.declared.statement.Statement.TheVariants.{ConflictClaim, Step, ValueClaim}
+use Rattle.palm_claim.specs.declared.statement.CertificatePhrase.TheVariants.{ConflictClaim, Step, ValueClaim}
+use Rattle.palm_claim.specs.declared.statement.Statement.TheVariants.{Phrase}
 use Rattle.palm_claim.specs.declared.verdict.Claim.TheVariants.{Gone, Conflict}
 use Rattle.palm_model.specs.Limits.{IsValue}
 use Rattle.palm_read.specs.Bounds.{IsWithin, a_value}
@@ -43,7 +44,7 @@ module _ (variables : List BookVar) where
       words_short (step_words variables pair by ks) (step_pieces (name_of variables pair.var) pair.value by ks) (words_step pair by ks named cited value small)
 
   pub step_says : (pair : Pair) (by : List ℕ) (ks : List ℕ) → IsNameText (name_of variables pair.var) → IsNameText by → IsValue pair.value → All IsStepNumber ks
-      → length (spaced (step_words variables pair by ks)) ≤ 65536 → Says (spaced (step_words variables pair by ks)) (Step (name_of variables pair.var) pair.value by ks)
+      → length (spaced (step_words variables pair by ks)) ≤ 65536 → Says (spaced (step_words variables pair by ks)) (Phrase (Step (name_of variables pair.var) pair.value by ks))
   step_says pair by ks named cited value small short =
       let words = words_step pair by ks named cited value small in
       let pieces = step_pieces (name_of variables pair.var) pair.value by ks in
@@ -58,7 +59,7 @@ module _ (variables : List BookVar) where
       words_short (claim_words variables (Gone pair)) (value_claim_pieces (name_of variables pair.var) pair.value) (words_value_claim pair named value)
 
   pub value_claim_says : (pair : Pair) → IsNameText (name_of variables pair.var) → IsValue pair.value
-      → length (spaced (claim_words variables (Gone pair))) ≤ 65536 → Says (spaced (claim_words variables (Gone pair))) (ValueClaim (name_of variables pair.var) pair.value)
+      → length (spaced (claim_words variables (Gone pair))) ≤ 65536 → Says (spaced (claim_words variables (Gone pair))) (Phrase (ValueClaim (name_of variables pair.var) pair.value))
   value_claim_says pair named value short =
       let words = words_value_claim pair named value in
       let pieces = value_claim_pieces (name_of variables pair.var) pair.value in
@@ -73,7 +74,7 @@ module _ (variables : List BookVar) where
       words_short (claim_words variables (Conflict x)) (conflict_claim_pieces (name_of variables x)) (words_conflict_claim x named)
 
   pub conflict_claim_says : (x : ℕ) → IsNameText (name_of variables x)
-      → length (spaced (claim_words variables (Conflict x))) ≤ 65536 → Says (spaced (claim_words variables (Conflict x))) (ConflictClaim (name_of variables x))
+      → length (spaced (claim_words variables (Conflict x))) ≤ 65536 → Says (spaced (claim_words variables (Conflict x))) (Phrase (ConflictClaim (name_of variables x)))
   conflict_claim_says x named short =
       let words = words_conflict_claim x named in
       let pieces = conflict_claim_pieces (name_of variables x) in

@@ -16,22 +16,23 @@ use Rattle.palm_model.proofs.cited.Trials.{support_grows}
 use Rattle.palm_model.proofs.cited.Without.{has_without, pair_of}
 use Rattle.palm_laws.proofs.cited.Solutions.{explained_missing}
 use Rattle.palm_claim.specs.Claim.{HoldsIn, IsExplained, IsOver, IsOverItsBook, constraints_of}
-use Rattle.palm_claim.specs.Draft.{Draft, Leads, MayStand, at_stage, blank, with_constraint, with_step, with_variable}
+use Rattle.palm_claim.specs.Draft.{Draft, MayFollow, MayList, at_stage, blank, with_constraint, with_step, with_variable}
+use Rattle.palm_claim.specs.Own as of_texts
 use Rattle.palm_claim.specs.Statement.{IsStepNumber, Says}
 use Rattle.palm_claim.specs.Step.{IsReached, IsRight, pair_at, pairs_at}
 use Rattle.palm_claim.specs.Judging.{Judges, in_order}
-use Rattle.palm_claim.specs.Verdict.{IsVerdict, Meets, certificates, ending}
+use Rattle.palm_claim.specs.Verdict.{IsVerdict, Meets, certificates, ending, of_certificates}
 use Rattle.palm_claim.specs.declared.statement.Stage.{Stage}
 use Rattle.palm_claim.specs.declared.statement.Stage.TheVariants.{Unopened, Declaring, Listing, Proving, Claimed, Closed}
+use Rattle.palm_claim.specs.declared.statement.CertificatePhrase.{CertificatePhrase}
+use Rattle.palm_claim.specs.declared.statement.CertificatePhrase.TheVariants.{Header, Step, ValueClaim, ConflictClaim, End}
 use Rattle.palm_claim.specs.declared.statement.Statement.{Statement}
-use Rattle.palm_claim.specs.declared.statement.Statement.TheVariants.{Comment, Header, Variable, Constraint, Step, ValueClaim, ConflictClaim, End}
+use Rattle.palm_claim.specs.declared.statement.Statement.TheVariants.{Comment, Variable, Constraint, Phrase}
 use Rattle.palm_claim.specs.declared.verdict.Claim.{Claim}
 use Rattle.palm_claim.specs.declared.verdict.Claim.TheVariants.{Gone, Conflict}
 use Rattle.palm_claim.specs.declared.verdict.Proved.{Proved}
 use Rattle.palm_claim.specs.declared.verdict.Verdict.{Verdict}
 use Rattle.palm_claim.specs.declared.verdict.Verdict.TheVariants.{Accepted, Refused}
-use Rattle.palm_read.specs.declared.line.DomainText.{DomainText}
-use Rattle.palm_read.specs.declared.line.Shape.{Shape}
 
 -- ---- a right step is explained where its reasons are
 
@@ -92,7 +93,7 @@ early_unclaimed Proving claim h c = absurd h
 early_unclaimed (Claimed k) claim h c = absurd h
 early_unclaimed (Closed k) claim h c = absurd h
 
-early_header : (stage : Stage) → ((MayStand stage Header → ⊥) → ⊥) → IsEarly stage
+early_header : (stage : Stage) → ((MayFollow stage Header → ⊥) → ⊥) → IsEarly stage
 early_header Unopened h = tt
 early_header Declaring h = tt
 early_header Listing h = tt
@@ -100,21 +101,21 @@ early_header Proving h = absurd (h (λ e. cc))
 early_header (Claimed c) h = absurd (h (λ e. cc))
 early_header (Closed c) h = absurd (h (λ e. cc))
 
-early_variable : (stage : Stage) (name : List ℕ) (domain : DomainText) → ((MayStand stage (Variable name domain) → ⊥) → ⊥) → IsEarly stage
-early_variable Unopened name domain h = tt
-early_variable Declaring name domain h = tt
-early_variable Listing name domain h = tt
-early_variable Proving name domain h = absurd (h (λ e. cc))
-early_variable (Claimed c) name domain h = absurd (h (λ e. cc))
-early_variable (Closed c) name domain h = absurd (h (λ e. cc))
+early_variable : (stage : Stage) → ((stage ≡ Declaring → ⊥) → ⊥) → IsEarly stage
+early_variable Unopened h = tt
+early_variable Declaring h = tt
+early_variable Listing h = tt
+early_variable Proving h = absurd (h (λ e. cc))
+early_variable (Claimed c) h = absurd (h (λ e. cc))
+early_variable (Closed c) h = absurd (h (λ e. cc))
 
-early_constraint : (stage : Stage) (name : List ℕ) (shape : Shape) → ((MayStand stage (Constraint name shape) → ⊥) → ⊥) → IsEarly stage
-early_constraint Unopened name shape h = tt
-early_constraint Declaring name shape h = tt
-early_constraint Listing name shape h = tt
-early_constraint Proving name shape h = absurd (h (λ e. e))
-early_constraint (Claimed c) name shape h = absurd (h (λ e. e))
-early_constraint (Closed c) name shape h = absurd (h (λ e. e))
+early_constraint : (stage : Stage) → ((MayList stage → ⊥) → ⊥) → IsEarly stage
+early_constraint Unopened h = tt
+early_constraint Declaring h = tt
+early_constraint Listing h = tt
+early_constraint Proving h = absurd (h (λ e. e))
+early_constraint (Claimed c) h = absurd (h (λ e. e))
+early_constraint (Closed c) h = absurd (h (λ e. e))
 
 -- a draft in which nothing is proved and nothing claimed
 keeps_early : (d : Draft) → IsEarly d.stage → d.proved ≡ [] → Keeps d
@@ -157,27 +158,27 @@ keeps_step d pair keeps is = record {
 by_two : (book : Contents) (pair : Pair) (P : Type 0) → ((P → ⊥) → ⊥) → (P → IsPairExplained book pair) → IsPairExplained book pair
 by_two book pair P twice h d inside closed has = twice (λ p. h p d inside closed has)
 
-keeps_leads : (d e : Draft) (line : List ℕ) (s : Statement) → Keeps d → Says line s → IsNone (Meets d s) in_order → Leads d s e → Keeps e
+keeps_leads : (d e : Draft) (line : List ℕ) (s : Statement CertificatePhrase) → Keeps d → Says line s → IsNone (Meets d s) in_order → of_texts.Leads of_certificates d s e → Keeps e
 keeps_leads d e line Comment keeps says none leads = subst Keeps (sym leads) keeps
-keeps_leads d e line Header keeps says none leads =
+keeps_leads d e line (Phrase Header) keeps says none leads =
     subst Keeps (sym leads) (keeps_early (at_stage d Declaring) tt (keeps.early (early_header d.stage none.0)))
 keeps_leads d e line (Variable name domain) keeps says none leads =
-    let early = early_variable d.stage name domain none.0 in
+    let early = early_variable d.stage none.0 in
     subst Keeps (sym leads) (keeps_early (with_variable d name _) early (keeps.early early))
 keeps_leads d e line (Constraint name shape) keeps says none leads =
-    let early = early_constraint d.stage name shape none.0 in
+    let early = early_constraint d.stage none.0 in
     subst Keeps (sym leads.2) (keeps_early (with_constraint d name leads.0) tt (keeps.early early))
-keeps_leads d e line (Step name value by reasons) keeps says none leads =
+keeps_leads d e line (Phrase (Step name value by reasons)) keeps says none leads =
     let pair : Pair = leads.0 in
     let members = reason_member d.proved reasons says.2.1 none.1.1.1.0 in
     let is : IsPairExplained d.book pair = by_two d.book pair (IsRight d.book d.proved pair by reasons) (λ wrong. none.1.1.1.1.0 (pair, leads.1, wrong))
     (right_explained d.book d.proved pair by reasons (λ p m. keeps.explained p (members p m))) in
     subst Keeps (sym leads.2) (keeps_step d pair keeps is)
-keeps_leads d e line (ValueClaim name value) keeps says none leads =
+keeps_leads d e line (Phrase (ValueClaim name value)) keeps says none leads =
     let pair : Pair = leads.0 in
     let is : IsPairExplained d.book pair = by_two d.book pair (Contains d.proved pair) (λ out. none.1.1.1.1.1.0 (pair, leads.1, out)) (keeps.explained pair) in
     subst Keeps (sym leads.2) (keeps_claim d (Gone pair) keeps is leads.1.variable.declared)
-keeps_leads d e line (ConflictClaim name) keeps says none leads =
+keeps_leads d e line (Phrase (ConflictClaim name)) keeps says none leads =
     let x : ℕ = leads.0 in
     let is : IsExplained d.book (Conflict x) = (
       omega (arith, leads.1.declared, length-map d.book.variables (λ e. e.values)),
@@ -185,7 +186,7 @@ keeps_leads d e line (ConflictClaim name) keeps says none leads =
           (λ reached g inside closed has. keeps.explained (record { var = x; value = v }) (reached v (inside x v has)) g inside closed has),
     ) in
     subst Keeps (sym leads.2) (keeps_claim d (Conflict x) keeps is leads.1.declared)
-keeps_leads d e line End keeps says none leads =
+keeps_leads d e line (Phrase End) keeps says none leads =
     let is = keeps.claimed leads.0 (inl leads.1) in
     let over = keeps.over leads.0 (inl leads.1) in
     let ended : Keeps (at_stage d (Closed leads.0)) = record {

@@ -1,26 +1,29 @@
--- The forms that only certificates have: the reader reads just the tokens of one, and none of them is a form of a session.
+-- The phrases of certificates: the reader reads just the tokens of one, and none of them is a form of a session.
 use Rattle.std.proofs.Common.{◌≡◌, ℕ, ℤ, pos, ◌-ℤ◌, ◌≤ℤ◌, ◌≤◌, nat_le, int_lt, true, not, Option, Some, None, List, [], ◌∷◌, ◌++◌, map, All, codes, refl, sym, ap, ◌∙◌, subst, arith, inl, inr}
 use Rattle.std.specs.List.{flat_map}
 use Rattle.std.proofs.lemmas.Bool.{and_parts, and_from, leb-true, le-leb}
 use Rattle.std.proofs.lemmas.Int.{ints}
-use Rattle.std.proofs.lemmas.List.Elements.{All-nil, All-from_recursion, recursion_from_All}
+use Rattle.std.proofs.lemmas.List.Elements.{All-cons, All-nil, All-from_recursion, recursion_from_All}
 use Rattle.std.proofs.lemmas.Option.{same_Some, none-some, some_pair_parts}
 use Rattle.palm_model.specs.Limits.{IsValue}
 use Rattle.palm_read.specs.declared.tokens.TokenKind.TheVariants.{Word, Digits, Sign}
 use Rattle.palm_read.specs.Form.{Form}
 use Rattle.palm_read.specs.Grammar.{IsForm}
-use Rattle.palm_read.specs.Piece.{Piece, Keyword, Named, Integer, Natural, word, sign, digits_number}
+use Rattle.palm_read.specs.Piece.{Piece, Keyword, Named, Integer, Natural, numeral, word, sign, digits_number}
 use Rattle.palm_read.specs.Reader.Lines.{header_at as session_header_at, numbered_at, bare_at, search_form_at, line_at, form_at}
 use Rattle.palm_read.specs.Reader.Steps.{Reading, and_then, when, choose, is_empty, is_name, front_text, token_at, behind, keyword_at, name_at, natural_at, integer_at}
-use Rattle.palm_read.specs.Token.{Lexeme}
+use Rattle.palm_read.specs.Token.{Lexeme, tokens_of}
 use Rattle.palm_read.proofs.cited.Begins.{Begins, over, begins_over, begins_from_spells, spells_from_begins, by_keyword, by_name, by_digits, by_integer, keyword_first, name_first, natural_first, integer_first}
 use Rattle.palm_read.proofs.cited.Front.{Starts, digits_first, minus_first, and_then_some, when_some, guard_some, same_text, token_at-cons, behind-cons, behind_is, name_is, name_at-cons, integer_at-starts}
 use Rattle.palm_read.proofs.cited.LineForms.{form_again}
 use Rattle.palm_read.proofs.cited.Many.{IsItem, many_at_takes, many_at_again}
-use Rattle.palm_claim.specs.Reader.{is_value, value_at, is_step_number, next_number, has_some, numbers_at, reasons_at, step_at, claim_at, header_at, phrase_at, phrase_of}
-use Rattle.palm_claim.specs.Statement.{header, reasons_pieces, step_pieces, value_claim_pieces, conflict_claim_pieces, IsSpelled, IsStepNumber, AreInRange}
-use Rattle.palm_claim.specs.declared.statement.Statement.{Statement}
-use Rattle.palm_claim.specs.declared.statement.Statement.TheVariants.{Comment, Header, Variable, Constraint, Step, ValueClaim, ConflictClaim, End}
+use Rattle.palm_read.proofs.cited.PlainTokens.{IsKnown, digits_known, sign_known, spelled_known, word_known}
+use Rattle.palm_claim.specs.Reader.{is_value, value_at, is_step_number, next_number, has_some, numbers_at, reasons_at, step_at, claim_at, header_at, is_lead, phrase_at}
+use Rattle.palm_claim.specs.Statement.{header, phrases, reasons_pieces, step_pieces, value_claim_pieces, conflict_claim_pieces, IsSpelled, IsStepNumber, AreInRange}
+use Rattle.palm_claim.specs.Phrases.{ArePhrases, begins_phrase}
+use Rattle.palm_claim.proofs.cited.Saying.{ended_phrase, lead_of, led_plain}
+use Rattle.palm_claim.specs.declared.statement.CertificatePhrase.{CertificatePhrase}
+use Rattle.palm_claim.specs.declared.statement.CertificatePhrase.TheVariants.{Header, Step, ValueClaim, ConflictClaim, End}
 
 -- ---- numbers in their ranges
 
@@ -155,22 +158,21 @@ reasons_again (k ∷ ks) tokens is b =
 
 -- ---- forms
 
--- the tokens begin with those of the statement, and go on with the rest
-abbrev Spelt : List Lexeme → Statement → List Lexeme → Type 0
+-- the tokens begin with those of the phrase, and go on with the rest
+abbrev Spelt : List Lexeme → CertificatePhrase → List Lexeme → Type 0
 Spelt tokens Header rest = tokens ≡ header ++ rest
 Spelt tokens (Step name value by reasons) rest = Begins tokens (step_pieces name value by reasons) rest
 Spelt tokens (ValueClaim name value) rest = Begins tokens (value_claim_pieces name value) rest
 Spelt tokens (ConflictClaim name) rest = Begins tokens (conflict_claim_pieces name) rest
 Spelt tokens End rest = Begins tokens (Keyword (codes "end") ∷ []) rest
-Spelt tokens _ rest = ⊥
 
-abbrev Taken : List Lexeme → Statement × List Lexeme → Type 0
+abbrev Taken : List Lexeme → CertificatePhrase × List Lexeme → Type 0
 Taken tokens x = Spelt tokens x.0 x.1 × AreInRange x.0
 
-moved : (tokens : List Lexeme) (made x : Statement × List Lexeme) → ◌≡◌ {A = Reading Statement} (Some made) (Some x) → Taken tokens made → Taken tokens x
+moved : (tokens : List Lexeme) (made x : CertificatePhrase × List Lexeme) → ◌≡◌ {A = Reading CertificatePhrase} (Some made) (Some x) → Taken tokens made → Taken tokens x
 moved tokens made x e t = subst (Taken tokens) (same_Some made x e) t
 
-step_takes : (tokens back : List Lexeme) (x : Statement × List Lexeme) → keyword_at (codes "step") tokens ≡ Some back → step_at back ≡ Some x → Taken tokens x
+step_takes : (tokens back : List Lexeme) (x : CertificatePhrase × List Lexeme) → keyword_at (codes "step") tokens ≡ Some back → step_at back ≡ Some x → Taken tokens x
 unfolding step_at
 step_takes tokens back x k e =
     let name = and_then_some e in
@@ -189,7 +191,7 @@ conflict_word tokens x e same =
     let is = (name_is tokens x e).0 in
     ap (keyword_at (codes "conflict")) (is ∙ ap (λ w. word w ∷ x.1) same) ∙ behind-cons Word (codes "conflict") x.1
 
-claim_takes : (tokens back : List Lexeme) (x : Statement × List Lexeme) → keyword_at (codes "claim") tokens ≡ Some back → claim_at back ≡ Some x → Taken tokens x
+claim_takes : (tokens back : List Lexeme) (x : CertificatePhrase × List Lexeme) → keyword_at (codes "claim") tokens ≡ Some back → claim_at back ≡ Some x → Taken tokens x
 unfolding claim_at
 claim_takes tokens back x k e =
     let name = and_then_some e in
@@ -204,7 +206,7 @@ claim_takes tokens back x k e =
           moved tokens (ValueClaim name.0.0 value.0.0, value.0.1) x value.2 (by_keyword k (by_name name.1 (by_integer v.0 over)), v.1)
     ]
 
-header_takes : (tokens : List Lexeme) (x : Statement × List Lexeme) → header_at tokens ≡ Some x → Taken tokens x
+header_takes : (tokens : List Lexeme) (x : CertificatePhrase × List Lexeme) → header_at tokens ≡ Some x → Taken tokens x
 unfolding header_at
 header_takes tokens x e =
     let first = and_then_some e in
@@ -219,7 +221,7 @@ header_takes tokens x e =
     a ∙ ap (λ ts. word (codes "palm") ∷ ts) (b ∙ ap (λ ts. sign (codes "-") ∷ ts) (c ∙ ap (λ ts. word (codes "cert") ∷ ts) d)) in
     moved tokens (Header, rest.0) x rest.2 (spelt, tt)
 
-phrase_takes : (tokens : List Lexeme) (x : Statement × List Lexeme) → phrase_at tokens ≡ Some x → Taken tokens x
+phrase_takes : (tokens : List Lexeme) (x : CertificatePhrase × List Lexeme) → phrase_at tokens ≡ Some x → Taken tokens x
 unfolding phrase_at
 phrase_takes tokens x e =
     elim (when_some e) [
@@ -237,32 +239,20 @@ pub empty_is : (tokens : List Lexeme) → is_empty tokens ≡ true → tokens �
 empty_is [] e = refl
 empty_is (t ∷ ts) e = absurd cc
 
-spelt_spelled : (tokens : List Lexeme) (s : Statement) → Spelt tokens s [] → IsSpelled tokens s
-spelt_spelled tokens Comment h = absurd h
+spelt_spelled : (tokens : List Lexeme) (s : CertificatePhrase) → Spelt tokens s [] → IsSpelled tokens s
 spelt_spelled tokens Header h = h
-spelt_spelled tokens (Variable name domain) h = absurd h
-spelt_spelled tokens (Constraint name shape) h = absurd h
 spelt_spelled tokens (Step name value by reasons) h = spells_from_begins h
 spelt_spelled tokens (ValueClaim name value) h = spells_from_begins h
 spelt_spelled tokens (ConflictClaim name) h = spells_from_begins h
 spelt_spelled tokens End h = spells_from_begins h
 
--- what is read is a form with its numbers in range
-pub phrase_is : (tokens : List Lexeme) (s : Statement) → phrase_of tokens ≡ Some s → IsSpelled tokens s × AreInRange s
-unfolding phrase_of
-phrase_is tokens s e =
-    let phrase = and_then_some e in
-    let last = guard_some phrase.2 in
-    let taken = phrase_takes tokens phrase.0 phrase.1 in
-    let same : phrase.0.0 ≡ s = same_Some phrase.0.0 s last.1 in
-    let spelt : Spelt tokens phrase.0.0 [] = subst (λ rest. Spelt tokens phrase.0.0 rest) (empty_is phrase.0.1 last.0) taken.0 in
-    (subst (IsSpelled tokens) same (spelt_spelled tokens phrase.0.0 spelt), subst AreInRange same taken.1)
+-- what is read is a phrase with its numbers in range
+phrase_is : (tokens : List Lexeme) (x : CertificatePhrase × List Lexeme) → phrase_at tokens ≡ Some x → is_empty x.1 ≡ true → IsSpelled tokens x.0 × AreInRange x.0
+phrase_is tokens x e last =
+    let taken = phrase_takes tokens x e in
+    (spelt_spelled tokens x.0 (subst (λ rest. Spelt tokens x.0 rest) (empty_is x.1 last) taken.0), taken.1)
 
--- ---- and where a form stands it is read
-
-ended : (tokens : List Lexeme) (s : Statement) → phrase_at tokens ≡ Some (s, []) → phrase_of tokens ≡ Some s
-unfolding phrase_of and_then choose
-ended tokens s e = rw e refl
+-- ---- and where a phrase stands it is read
 
 step_again : (name : List ℕ) (value : ℤ) (by : List ℕ) (reasons : List ℕ) (back : List Lexeme) → IsValue value → All IsStepNumber reasons
     → Begins back (Named name ∷ Integer value ∷ Keyword (codes "by") ∷ Named by ∷ reasons_pieces reasons) [] → step_at back ≡ Some (Step name value by reasons, [])
@@ -298,12 +288,9 @@ conflict_claim_again name back b =
     rw (k.1, conflict_name k.0, n.1, name_at-cons name n.0 n.2, begins_over n.3) refl
 
 -- the reader finds its way by the first word
-phrase_again : (tokens : List Lexeme) (s : Statement) → IsSpelled tokens s → AreInRange s → phrase_at tokens ≡ Some (s, [])
+phrase_again : (tokens : List Lexeme) (s : CertificatePhrase) → IsSpelled tokens s → AreInRange s → phrase_at tokens ≡ Some (s, [])
 unfolding phrase_at header_at behind token_at front_text and_then when choose
-phrase_again tokens Comment h range = absurd h
 phrase_again tokens Header h range = rw h refl
-phrase_again tokens (Variable name domain) h range = absurd h
-phrase_again tokens (Constraint name shape) h range = absurd h
 phrase_again tokens (Step name value by reasons) h range =
     let k = keyword_first (begins_from_spells (step_pieces name value by reasons) tokens h) in
     rw k.1 (step_again name value by reasons k.0 range.0 range.1 k.2)
@@ -312,9 +299,6 @@ phrase_again tokens (ValueClaim name value) h range =
 phrase_again tokens (ConflictClaim name) h range =
     let k = keyword_first (begins_from_spells (conflict_claim_pieces name) tokens h) in rw k.1 (conflict_claim_again name k.0 k.2)
 phrase_again tokens End h range = let k = keyword_first (begins_from_spells (Keyword (codes "end") ∷ []) tokens h) in rw (k.1, begins_over k.2) refl
-
-pub is_phrase : (tokens : List Lexeme) (s : Statement) → IsSpelled tokens s → AreInRange s → phrase_of tokens ≡ Some s
-is_phrase tokens s h range = ended tokens s (phrase_again tokens s h range)
 
 -- ---- none is a form of a session
 
@@ -334,11 +318,8 @@ header_no_form : form_at header ≡ None
 unfolding form_at line_at session_header_at bare_at behind token_at front_text and_then when choose
 header_no_form = refl
 
-no_form : (tokens : List Lexeme) (s : Statement) → IsSpelled tokens s → form_at tokens ≡ None
-no_form tokens Comment h = absurd h
+no_form : (tokens : List Lexeme) (s : CertificatePhrase) → IsSpelled tokens s → form_at tokens ≡ None
 no_form tokens Header h = ap form_at h ∙ header_no_form
-no_form tokens (Variable name domain) h = absurd h
-no_form tokens (Constraint name shape) h = absurd h
 no_form tokens (Step name value by reasons) h =
     let k = keyword_first (begins_from_spells (step_pieces name value by reasons) tokens h) in
     let n = name_first k.2 in
@@ -349,5 +330,42 @@ no_form tokens (ConflictClaim name) h =
     let k = keyword_first (begins_from_spells (conflict_claim_pieces name) tokens h) in ap form_at k.1 ∙ claim_no_form k.0
 no_form tokens End h = let k = keyword_first (begins_from_spells (Keyword (codes "end") ∷ []) tokens h) in ap form_at k.1 ∙ end_no_form k.0
 
-pub phrase_no_form : (tokens : List Lexeme) (s : Statement) (form : Form) → IsSpelled tokens s → IsForm tokens form → ⊥
+phrase_no_form : (tokens : List Lexeme) (s : CertificatePhrase) (form : Form) → IsSpelled tokens s → IsForm tokens form → ⊥
 phrase_no_form tokens s form spelled is = none-some form (sym (no_form tokens s spelled) ∙ form_again tokens form is)
+
+-- ---- each begins with a word of its own
+
+led_spelled : (tokens : List Lexeme) (s : CertificatePhrase) → IsSpelled tokens s → begins_phrase is_lead tokens ≡ true
+led_spelled tokens Header h = lead_of is_lead (codes "palm") tokens _ h
+led_spelled tokens (Step name value by reasons) h = let k = keyword_first (begins_from_spells (step_pieces name value by reasons) tokens h) in lead_of is_lead (codes "step") tokens k.0 k.1
+led_spelled tokens (ValueClaim name value) h = let k = keyword_first (begins_from_spells (value_claim_pieces name value) tokens h) in lead_of is_lead (codes "claim") tokens k.0 k.1
+led_spelled tokens (ConflictClaim name) h = let k = keyword_first (begins_from_spells (conflict_claim_pieces name) tokens h) in lead_of is_lead (codes "claim") tokens k.0 k.1
+led_spelled tokens End h = let k = keyword_first (begins_from_spells (Keyword (codes "end") ∷ []) tokens h) in lead_of is_lead (codes "end") tokens k.0 k.1
+
+-- the tokens of a header by this word are known
+pub header_known : (kind : List ℕ) (tokens : List Lexeme) → tokens ≡ word (codes "palm") ∷ sign (codes "-") ∷ word kind ∷ numeral (codes "1") ∷ [] → All IsKnown tokens
+header_known kind tokens h =
+    let one : List Lexeme = numeral (codes "1") ∷ [] in
+    let rest : List Lexeme = word kind ∷ one in
+    let all_one : All IsKnown one = All-cons IsKnown (numeral (codes "1")) [] (digits_known (codes "1")) (All-nil IsKnown) in
+    let all_rest : All IsKnown rest = All-cons IsKnown (word kind) one (word_known kind) all_one in
+    subst (All IsKnown) (sym h)
+    (All-cons IsKnown (word (codes "palm")) (sign (codes "-") ∷ rest) (word_known (codes "palm")) (All-cons IsKnown (sign (codes "-")) rest (sign_known (codes "-")) all_rest))
+
+phrase_known : (tokens : List Lexeme) (s : CertificatePhrase) → IsSpelled tokens s → All IsKnown tokens
+phrase_known tokens Header h = header_known (codes "cert") tokens h
+phrase_known tokens (Step name value by reasons) h = spelled_known tokens (step_pieces name value by reasons) h
+phrase_known tokens (ValueClaim name value) h = spelled_known tokens (value_claim_pieces name value) h
+phrase_known tokens (ConflictClaim name) h = spelled_known tokens (conflict_claim_pieces name) h
+phrase_known tokens End h = spelled_known tokens (Keyword (codes "end") ∷ []) h
+
+pub are_phrases : ArePhrases phrases
+are_phrases = record {
+  takes = phrase_is;
+  again = λ tokens s h range. ended_phrase phrase_at tokens s (phrase_again tokens s h range);
+  led = led_spelled;
+  plain = λ bytes s short h. led_plain is_lead bytes short (led_spelled (tokens_of bytes) s h) (phrase_known (tokens_of bytes) s h);
+  no_form = phrase_no_form;
+  no_var = refl;
+  no_add = refl;
+}

@@ -35,7 +35,8 @@ use Rattle.proof_text.specs.Verdict.{Meets, proofs}
 use Rattle.proof_text.specs.declared.lemma.Lemma.{Lemma}
 use Rattle.proof_text.specs.declared.statement.Stage.{Stage}
 use Rattle.proof_text.specs.declared.statement.Stage.TheVariants.{Closed, Told, Wiped}
-use Rattle.proof_text.specs.declared.statement.Statement.TheVariants.{End, Users}
+use Rattle.palm_claim.specs.declared.statement.Statement.TheVariants.{Phrase}
+use Rattle.proof_text.specs.declared.statement.ProofPhrase.TheVariants.{End, Users}
 use Rattle.proof_text.specs.declared.verdict.ProofVerdict.TheVariants.{Accepted}
 use Rattle.proof_run.specs.Accepted.{IsAccepted, as_listed}
 use Rattle.proof_run.specs.Lemma.{IsLemmaOf, held_decisions, wiped_by}
@@ -209,10 +210,10 @@ module _ (book : Contents) (is : IsBook book) where
             let says = users_says names texts few_names in
             reads_line proofs d (at_stage d (Told told)) (spaced (lead_word NoSolutionLead ∷ names)) (none_line book users) refl says.0.plain
             (record {
-              statement = Users names;
+              statement = Phrase (Users names);
               says = says;
               none =
-                  no_cause (Meets d (Users names)) (λ h. h refl) all_named (λ h. h) (λ h. h) (λ h. h)
+                  no_cause (Meets d (Phrase (Users names))) (λ h. h refl) all_named (λ h. h) (λ h. h) (λ h. h)
                   (λ h. h (record { free = none_held s.decisions conflict undecided; used = picked.0; are_used = picked.1; named = named }));
               leads = (picked.0, picked.1, refl);
             })
@@ -222,9 +223,9 @@ module _ (book : Contents) (is : IsBook book) where
             let d = at_stage (behind said.lemmas) (Told told) in
             reads_line proofs d (at_stage (behind said.lemmas) (Closed told)) (fixed_word EndWord) (fixed_text EndWord) refl end_says.0.plain
             (record {
-              statement = End;
+              statement = Phrase End;
               says = end_says;
-              none = no_cause (Meets d End) (λ h. h tt) (λ h. h) (λ h. h) (λ h. h) (λ h. h) (λ h. h);
+              none = no_cause (Meets d (Phrase End)) (λ h. h tt) (λ h. h) (λ h. h) (λ h. h) (λ h. h) (λ h. h);
               leads = (told, refl, refl);
             })
 

@@ -19,22 +19,25 @@ use Rattle.palm_model.specs.declared.constraint.Con.{Con}
 use Rattle.palm_model.proofs.cited.Formed.{part_scope}
 use Rattle.palm_read.specs.Domain.{values_in}
 use Rattle.palm_claim.specs.Judging.{Judges, in_order}
+use Rattle.palm_claim.specs.Own as of_texts
 use Rattle.palm_claim.specs.Step.{IsReached, IsRightBy, pairs_at}
 use Rattle.palm_claim.specs.declared.verdict.Claim.TheVariants.{Conflict}
 use Rattle.palm_claim.specs.declared.ground.Ground.{Ground}
 use Rattle.palm_claim.specs.declared.ground.Ground.TheVariants.{By, Assumed, OfLemma}
 use Rattle.palm_claim.proofs.cited.Explained.{reason_member}
-use Rattle.proof_text.specs.Draft.{ArePairs, Draft, Leads, Notes, at_stage, blank, given_in, users_of, with_constraint, with_lemma, with_step, with_variable, with_wipe}
+use Rattle.proof_text.specs.Draft.{ArePairs, Draft, Notes, at_stage, blank, given_in, users_of, with_constraint, with_lemma, with_step, with_variable, with_wipe}
 use Rattle.proof_text.specs.Sound.{IsBacked}
 use Rattle.proof_text.specs.Statement.{IsGroundInRange, Says}
 use Rattle.proof_text.specs.Users.{AreOfTheirBook, AreUsed, IsAmong, by_lemma, by_step}
-use Rattle.proof_text.specs.Verdict.{IsUnprovedGround, IsVerdict, Meets, ending, proofs}
+use Rattle.proof_text.specs.Verdict.{IsUnprovedGround, IsVerdict, Meets, ending, of_proofs, proofs}
 use Rattle.proof_text.specs.declared.lemma.Lemma.{Lemma}
 use Rattle.proof_text.specs.declared.statement.NamedPair.{NamedPair}
 use Rattle.proof_text.specs.declared.statement.Stage.{Stage}
 use Rattle.proof_text.specs.declared.statement.Stage.TheVariants.{Unopened, Declaring, Listing, Reasoning, Wiped, Told, Closed}
-use Rattle.proof_text.specs.declared.statement.Statement.{Statement}
-use Rattle.proof_text.specs.declared.statement.Statement.TheVariants.{Comment, Header, Variable, Constraint, Lemma as LemmaLine, Step, Wipe, Users, End}
+use Rattle.palm_claim.specs.declared.statement.Statement.{Statement}
+use Rattle.palm_claim.specs.declared.statement.Statement.TheVariants.{Comment, Variable, Constraint, Phrase}
+use Rattle.proof_text.specs.declared.statement.ProofPhrase.{ProofPhrase}
+use Rattle.proof_text.specs.declared.statement.ProofPhrase.TheVariants.{Header, Lemma as LemmaLine, Step, Wipe, Users, End}
 use Rattle.proof_text.specs.declared.verdict.ProofVerdict.{ProofVerdict}
 use Rattle.proof_text.specs.declared.verdict.ProofVerdict.TheVariants.{Accepted, Refused}
 use Rattle.palm_laws.proofs.cited.Solutions.{has_point, point_has, points, points_closed, points_inside}
@@ -250,17 +253,17 @@ users_refuted d used is are free = record {
 }
 
 -- a line without a cause leads to such a draft
-keeps_leads : (d e : Draft) (line : List ℕ) (s : Statement) → Keeps d → Says line s → IsNone (Meets d s) in_order → Leads d s e → Keeps e
+keeps_leads : (d e : Draft) (line : List ℕ) (s : Statement ProofPhrase) → Keeps d → Says line s → IsNone (Meets d s) in_order → of_texts.Leads of_proofs d s e → Keeps e
 keeps_leads d e line Comment keeps says none leads = subst Keeps (sym leads) keeps
-keeps_leads d e line Header keeps says none leads =
+keeps_leads d e line (Phrase Header) keeps says none leads =
     let no_lemma : d.lemmas ≡ [] = subst (λ s. AtStage s d) (at_unopened d.stage none.0) keeps.stage in
     subst Keeps (sym leads) (keeps_at d Declaring keeps no_lemma)
 keeps_leads d e line (Variable name domain) keeps says none leads =
     subst Keeps (sym leads) (keeps_variable d name (values_in domain) keeps (at_declaring d.stage none.0))
 keeps_leads d e line (Constraint name shape) keeps says none leads =
-    let no_lemma = early_lemmas d.stage d (early_constraint d.stage name shape none.0) keeps.stage in
+    let no_lemma = early_lemmas d.stage d (early_constraint d.stage none.0) keeps.stage in
     subst Keeps (sym leads.2) (keeps_constraint d name leads.0 keeps no_lemma (λ has. none.1.0 (inl has)) leads.1.declared)
-keeps_leads d e line (LemmaLine named) keeps says none leads =
+keeps_leads d e line (Phrase (LemmaLine named)) keeps says none leads =
     let begun : Keeps (with_lemma d leads.0) = record {
       over = keeps.over;
       apart = keeps.apart;
@@ -268,22 +271,22 @@ keeps_leads d e line (LemmaLine named) keeps says none leads =
       stage = record { declared = pairs_declared d.book.variables named leads.0 leads.1; lacks = λ b solution has p m f. member_nil p m };
     } in
     subst Keeps (sym leads.2) begun
-keeps_leads d e line (Step name value ground) keeps says none leads =
+keeps_leads d e line (Phrase (Step name value ground)) keeps says none leads =
     let stands = at_reasoning d.stage none.0 in
     let pair : Pair = leads.0 in
     let proved = proved_more d pair ground leads.1 keeps (subst (λ s. AtStage s d) stands keeps.stage) leads.2.variable.declared leads.3
     (earlier_reasons d ground says.2.1 none.1.1.1.0) (λ wrong. none.1.1.1.1.0 (pair, leads.2, wrong)) in
     subst Keeps (sym leads.4) (keeps_step d pair leads.1 keeps stands proved)
-keeps_leads d e line (Wipe name) keeps says none leads =
+keeps_leads d e line (Phrase (Wipe name)) keeps says none leads =
     let proved : AreProved d.book d.lemmas d.begun d.proved = subst (λ s. AtStage s d) (at_reasoning d.stage none.0) keeps.stage in
     subst Keeps (sym leads) (keeps_wipe d keeps (λ b solution has. none.1.0 (λ known.
     let x = variable_with d.book.variables name known in
     wiped_true d x.0 proved x.1 (λ out. none.1.1.1.1.1.0 (x.0, record { declared = x.1; named = x.2 }, out)) b solution has)))
-keeps_leads d e line (Users names) keeps says none leads =
+keeps_leads d e line (Phrase (Users names)) keeps says none leads =
     let is : IsTrue d.book d.lemmas d.begun = subst (λ s. AtStage s d) (at_wiped d.stage none.0) keeps.stage in
     let refuted = users_refuted d leads.0 is leads.1 (λ bound. none.1.1.1.1.1.0 (λ are. bound are.free)) in
     subst Keeps (sym leads.2) (keeps_at d (Told (users_of leads.0)) keeps refuted)
-keeps_leads d e line End keeps says none leads =
+keeps_leads d e line (Phrase End) keeps says none leads =
     subst Keeps (sym leads.2) (keeps_at d (Closed leads.0) keeps (subst (λ s. AtStage s d) leads.1 keeps.stage))
 
 -- ---- the whole text

@@ -1,5 +1,5 @@
--- The forms that only proofs have: the reader reads just the tokens of one, and none of them is a form of a session.
-use Rattle.std.proofs.Common.{◌≡◌, ℕ, ℤ, ◌≤◌, Option, Some, None, List, [], ◌∷◌, ◌++◌, length, map, All, codes, refl, sym, ap, ◌∙◌, subst, arith, inl, inr}
+-- The phrases of proofs: the reader reads just the tokens of one, and none of them is a form of a session.
+use Rattle.std.proofs.Common.{◌≡◌, ℕ, ℤ, ◌≤◌, true, Option, Some, None, List, [], ◌∷◌, ◌++◌, length, map, All, codes, refl, sym, ap, ◌∙◌, subst, arith, inl, inr}
 use Rattle.std.specs.Bool.{⊤}
 use Rattle.std.specs.List.{flat_map, AllByRecursion}
 use Rattle.std.proofs.lemmas.Bool.{le-leb}
@@ -12,20 +12,23 @@ use Rattle.palm_read.specs.Grammar.{IsForm}
 use Rattle.palm_read.specs.Piece.{Keyword, Named, Integer, word, sign}
 use Rattle.palm_read.specs.Reader.Lines.{header_at as session_header_at, bare_at, search_form_at, line_at, form_at}
 use Rattle.palm_read.specs.Reader.Lists.{names_at, next_name}
-use Rattle.palm_read.specs.Reader.Steps.{Reading, and_then, when, choose, front_text, token_at, behind, keyword_at, name_at}
-use Rattle.palm_read.specs.Token.{Lexeme}
+use Rattle.palm_read.specs.Reader.Steps.{Reading, and_then, when, choose, is_empty, front_text, token_at, behind, keyword_at, name_at}
+use Rattle.palm_read.specs.Token.{Lexeme, tokens_of}
 use Rattle.proof_text.proofs.cited.Names.{name_item, name_pieces}
 use Rattle.palm_read.proofs.cited.Begins.{Begins, over, begins_over, begins_from_spells, spells_from_begins, by_integer, by_keyword, by_mark, by_name, integer_first, keyword_first, mark_first, name_first}
 use Rattle.palm_read.proofs.cited.Front.{and_then_some, when_some, guard_some, behind-cons, behind_is, name_at-cons}
 use Rattle.palm_read.proofs.cited.LineForms.{form_again}
 use Rattle.palm_read.proofs.cited.Many.{IsItem, many_at_takes, many_at_again}
+use Rattle.palm_read.proofs.cited.PlainTokens.{IsKnown, spelled_known}
 use Rattle.palm_claim.specs.declared.ground.Ground.{Ground}
-use Rattle.palm_claim.proofs.cited.Phrases.{empty_is, end_no_form, step_no_form, value_again, value_takes}
-use Rattle.proof_text.specs.Reader.{header_at, lemma_at, next_pair, phrase_at, phrase_of, step_at, users_at, wipe_at}
-use Rattle.proof_text.specs.Statement.{AreInRange, IsGroundInRange, IsSpelled, ground_pieces, header, lemma_pieces, pair_pieces, step_pieces, users_pieces, wipe_pieces}
+use Rattle.palm_claim.specs.Phrases.{ArePhrases, begins_phrase}
+use Rattle.palm_claim.proofs.cited.Phrases.{empty_is, end_no_form, header_known, step_no_form, value_again, value_takes}
+use Rattle.palm_claim.proofs.cited.Saying.{ended_phrase, lead_of, led_plain}
+use Rattle.proof_text.specs.Reader.{header_at, is_lead, lemma_at, next_pair, phrase_at, step_at, users_at, wipe_at}
+use Rattle.proof_text.specs.Statement.{AreInRange, IsGroundInRange, IsSpelled, ground_pieces, header, lemma_pieces, pair_pieces, phrases, step_pieces, users_pieces, wipe_pieces}
 use Rattle.proof_text.specs.declared.statement.NamedPair.{NamedPair}
-use Rattle.proof_text.specs.declared.statement.Statement.{Statement}
-use Rattle.proof_text.specs.declared.statement.Statement.TheVariants.{Comment, Header, Variable, Constraint, Lemma, Step, Wipe, Users, End}
+use Rattle.proof_text.specs.declared.statement.ProofPhrase.{ProofPhrase}
+use Rattle.proof_text.specs.declared.statement.ProofPhrase.TheVariants.{Header, Lemma, Step, Wipe, Users, End}
 use Rattle.proof_text.proofs.Grounds.{ground_again, ground_takes}
 
 -- ---- pairs
@@ -112,23 +115,22 @@ names_again names tokens b =
 
 -- ---- forms
 
--- the tokens begin with those of the statement, and go on with the rest
-abbrev Spelt : List Lexeme → Statement → List Lexeme → Type 0
+-- the tokens begin with those of the phrase, and go on with the rest
+abbrev Spelt : List Lexeme → ProofPhrase → List Lexeme → Type 0
 Spelt tokens Header rest = tokens ≡ header ++ rest
 Spelt tokens (Lemma pairs) rest = Begins tokens (lemma_pieces pairs) rest
 Spelt tokens (Step name value ground) rest = Begins tokens (step_pieces name value ground) rest
 Spelt tokens (Wipe name) rest = Begins tokens (wipe_pieces name) rest
 Spelt tokens (Users names) rest = Begins tokens (users_pieces names) rest
 Spelt tokens End rest = Begins tokens (Keyword (codes "end") ∷ []) rest
-Spelt tokens _ rest = ⊥
 
-abbrev Taken : List Lexeme → Statement × List Lexeme → Type 0
+abbrev Taken : List Lexeme → ProofPhrase × List Lexeme → Type 0
 Taken tokens x = Spelt tokens x.0 x.1 × AreInRange x.0
 
-moved : (tokens : List Lexeme) (made x : Statement × List Lexeme) → ◌≡◌ {A = Reading Statement} (Some made) (Some x) → Taken tokens made → Taken tokens x
+moved : (tokens : List Lexeme) (made x : ProofPhrase × List Lexeme) → ◌≡◌ {A = Reading ProofPhrase} (Some made) (Some x) → Taken tokens made → Taken tokens x
 moved tokens made x e t = subst (Taken tokens) (same_Some made x e) t
 
-step_takes : (tokens back : List Lexeme) (x : Statement × List Lexeme) → keyword_at (codes "step") tokens ≡ Some back → step_at back ≡ Some x → Taken tokens x
+step_takes : (tokens back : List Lexeme) (x : ProofPhrase × List Lexeme) → keyword_at (codes "step") tokens ≡ Some back → step_at back ≡ Some x → Taken tokens x
 unfolding step_at
 step_takes tokens back x k e =
     let name = and_then_some e in
@@ -138,26 +140,26 @@ step_takes tokens back x k e =
     let g = ground_takes value.0.1 ground.0 ground.1 in
     moved tokens (Step name.0.0 value.0.0 ground.0.0, ground.0.1) x ground.2 (by_keyword k (by_name name.1 (by_integer v.0 g.0)), (v.1, g.1))
 
-lemma_takes : (tokens back : List Lexeme) (x : Statement × List Lexeme) → keyword_at (codes "lemma") tokens ≡ Some back → lemma_at back ≡ Some x → Taken tokens x
+lemma_takes : (tokens back : List Lexeme) (x : ProofPhrase × List Lexeme) → keyword_at (codes "lemma") tokens ≡ Some back → lemma_at back ≡ Some x → Taken tokens x
 unfolding lemma_at
 lemma_takes tokens back x k e =
     let pairs = and_then_some e in
     let t = many_at_takes next_pair pair_pieces HasValue pair_item back pairs.0 pairs.1 in
     moved tokens (Lemma pairs.0.0, pairs.0.1) x pairs.2 (by_keyword k t.0, All-from_recursion HasValue pairs.0.0 t.1)
 
-wipe_takes : (tokens back : List Lexeme) (x : Statement × List Lexeme) → keyword_at (codes "wipe") tokens ≡ Some back → wipe_at back ≡ Some x → Taken tokens x
+wipe_takes : (tokens back : List Lexeme) (x : ProofPhrase × List Lexeme) → keyword_at (codes "wipe") tokens ≡ Some back → wipe_at back ≡ Some x → Taken tokens x
 unfolding wipe_at
 wipe_takes tokens back x k e =
     let name = and_then_some e in
     moved tokens (Wipe name.0.0, name.0.1) x name.2 (by_keyword k (by_name name.1 over), tt)
 
-users_takes : (tokens back : List Lexeme) (x : Statement × List Lexeme) → keyword_at (codes "none") tokens ≡ Some back → users_at back ≡ Some x → Taken tokens x
+users_takes : (tokens back : List Lexeme) (x : ProofPhrase × List Lexeme) → keyword_at (codes "none") tokens ≡ Some back → users_at back ≡ Some x → Taken tokens x
 unfolding users_at
 users_takes tokens back x k e =
     let names = and_then_some e in
     moved tokens (Users names.0.0, names.0.1) x names.2 (by_keyword k (names_takes back names.0 names.1), tt)
 
-header_takes : (tokens : List Lexeme) (x : Statement × List Lexeme) → header_at tokens ≡ Some x → Taken tokens x
+header_takes : (tokens : List Lexeme) (x : ProofPhrase × List Lexeme) → header_at tokens ≡ Some x → Taken tokens x
 unfolding header_at
 header_takes tokens x e =
     let first = and_then_some e in
@@ -172,7 +174,7 @@ header_takes tokens x e =
     a ∙ ap (λ ts. word (codes "palm") ∷ ts) (b ∙ ap (λ ts. sign (codes "-") ∷ ts) (c ∙ ap (λ ts. word (codes "proof") ∷ ts) d)) in
     moved tokens (Header, rest.0) x rest.2 (spelt, tt)
 
-phrase_takes : (tokens : List Lexeme) (x : Statement × List Lexeme) → phrase_at tokens ≡ Some x → Taken tokens x
+phrase_takes : (tokens : List Lexeme) (x : ProofPhrase × List Lexeme) → phrase_at tokens ≡ Some x → Taken tokens x
 unfolding phrase_at
 phrase_takes tokens x e =
     elim (when_some e) [
@@ -192,33 +194,21 @@ phrase_takes tokens x e =
       ]
     ]
 
-spelt_spelled : (tokens : List Lexeme) (s : Statement) → Spelt tokens s [] → IsSpelled tokens s
-spelt_spelled tokens Comment h = absurd h
+spelt_spelled : (tokens : List Lexeme) (s : ProofPhrase) → Spelt tokens s [] → IsSpelled tokens s
 spelt_spelled tokens Header h = h
-spelt_spelled tokens (Variable name domain) h = absurd h
-spelt_spelled tokens (Constraint name shape) h = absurd h
 spelt_spelled tokens (Lemma pairs) h = spells_from_begins h
 spelt_spelled tokens (Step name value ground) h = spells_from_begins h
 spelt_spelled tokens (Wipe name) h = spells_from_begins h
 spelt_spelled tokens (Users names) h = spells_from_begins h
 spelt_spelled tokens End h = spells_from_begins h
 
--- what is read is a form with its numbers in range
-pub phrase_is : (tokens : List Lexeme) (s : Statement) → phrase_of tokens ≡ Some s → IsSpelled tokens s × AreInRange s
-unfolding phrase_of
-phrase_is tokens s e =
-    let phrase = and_then_some e in
-    let last = guard_some phrase.2 in
-    let taken = phrase_takes tokens phrase.0 phrase.1 in
-    let same : phrase.0.0 ≡ s = same_Some phrase.0.0 s last.1 in
-    let spelt : Spelt tokens phrase.0.0 [] = subst (λ rest. Spelt tokens phrase.0.0 rest) (empty_is phrase.0.1 last.0) taken.0 in
-    (subst (IsSpelled tokens) same (spelt_spelled tokens phrase.0.0 spelt), subst AreInRange same taken.1)
+-- what is read is a phrase with its numbers in range
+phrase_is : (tokens : List Lexeme) (x : ProofPhrase × List Lexeme) → phrase_at tokens ≡ Some x → is_empty x.1 ≡ true → IsSpelled tokens x.0 × AreInRange x.0
+phrase_is tokens x e last =
+    let taken = phrase_takes tokens x e in
+    (spelt_spelled tokens x.0 (subst (λ rest. Spelt tokens x.0 rest) (empty_is x.1 last) taken.0), taken.1)
 
--- ---- and where a form stands it is read
-
-ended : (tokens : List Lexeme) (s : Statement) → phrase_at tokens ≡ Some (s, []) → phrase_of tokens ≡ Some s
-unfolding phrase_of and_then choose
-ended tokens s e = rw e refl
+-- ---- and where a phrase stands it is read
 
 step_again : (name : List ℕ) (value : ℤ) (ground : Ground) (back : List Lexeme) → IsValue value → IsGroundInRange ground
     → Begins back (Named name ∷ Integer value ∷ ground_pieces ground) [] → step_at back ≡ Some (Step name value ground, [])
@@ -241,21 +231,15 @@ unfolding users_at and_then
 users_again names back b = rw (names_again names back b) refl
 
 -- the reader finds its way by the first word
-phrase_again : (tokens : List Lexeme) (s : Statement) → IsSpelled tokens s → AreInRange s → phrase_at tokens ≡ Some (s, [])
+phrase_again : (tokens : List Lexeme) (s : ProofPhrase) → IsSpelled tokens s → AreInRange s → phrase_at tokens ≡ Some (s, [])
 unfolding phrase_at header_at behind token_at front_text and_then when choose
-phrase_again tokens Comment h range = absurd h
 phrase_again tokens Header h range = rw h refl
-phrase_again tokens (Variable name domain) h range = absurd h
-phrase_again tokens (Constraint name shape) h range = absurd h
 phrase_again tokens (Lemma pairs) h range = let k = keyword_first (begins_from_spells (lemma_pieces pairs) tokens h) in rw k.1 (lemma_again pairs k.0 range k.2)
 phrase_again tokens (Step name value ground) h range =
     let k = keyword_first (begins_from_spells (step_pieces name value ground) tokens h) in rw k.1 (step_again name value ground k.0 range.0 range.1 k.2)
 phrase_again tokens (Wipe name) h range = let k = keyword_first (begins_from_spells (wipe_pieces name) tokens h) in rw k.1 (wipe_again name k.0 k.2)
 phrase_again tokens (Users names) h range = let k = keyword_first (begins_from_spells (users_pieces names) tokens h) in rw k.1 (users_again names k.0 k.2)
 phrase_again tokens End h range = let k = keyword_first (begins_from_spells (Keyword (codes "end") ∷ []) tokens h) in rw (k.1, begins_over k.2) refl
-
-pub is_phrase : (tokens : List Lexeme) (s : Statement) → IsSpelled tokens s → AreInRange s → phrase_of tokens ≡ Some s
-is_phrase tokens s h range = ended tokens s (phrase_again tokens s h range)
 
 -- ---- none is a form of a session
 
@@ -275,11 +259,8 @@ header_no_form : form_at header ≡ None
 unfolding form_at line_at session_header_at bare_at behind token_at front_text and_then when choose
 header_no_form = refl
 
-no_form : (tokens : List Lexeme) (s : Statement) → IsSpelled tokens s → form_at tokens ≡ None
-no_form tokens Comment h = absurd h
+no_form : (tokens : List Lexeme) (s : ProofPhrase) → IsSpelled tokens s → form_at tokens ≡ None
 no_form tokens Header h = ap form_at h ∙ header_no_form
-no_form tokens (Variable name domain) h = absurd h
-no_form tokens (Constraint name shape) h = absurd h
 no_form tokens (Lemma pairs) h = let k = keyword_first (begins_from_spells (lemma_pieces pairs) tokens h) in ap form_at k.1 ∙ lemma_no_form k.0
 no_form tokens (Step name value ground) h =
     let k = keyword_first (begins_from_spells (step_pieces name value ground) tokens h) in
@@ -289,5 +270,34 @@ no_form tokens (Wipe name) h = let k = keyword_first (begins_from_spells (wipe_p
 no_form tokens (Users names) h = let k = keyword_first (begins_from_spells (users_pieces names) tokens h) in ap form_at k.1 ∙ users_no_form k.0
 no_form tokens End h = let k = keyword_first (begins_from_spells (Keyword (codes "end") ∷ []) tokens h) in ap form_at k.1 ∙ end_no_form k.0
 
-pub phrase_no_form : (tokens : List Lexeme) (s : Statement) (form : Form) → IsSpelled tokens s → IsForm tokens form → ⊥
+phrase_no_form : (tokens : List Lexeme) (s : ProofPhrase) (form : Form) → IsSpelled tokens s → IsForm tokens form → ⊥
 phrase_no_form tokens s form spelled is = none-some form (sym (no_form tokens s spelled) ∙ form_again tokens form is)
+
+-- ---- each begins with a word of its own
+
+led_spelled : (tokens : List Lexeme) (s : ProofPhrase) → IsSpelled tokens s → begins_phrase is_lead tokens ≡ true
+led_spelled tokens Header h = lead_of is_lead (codes "palm") tokens _ h
+led_spelled tokens (Lemma pairs) h = let k = keyword_first (begins_from_spells (lemma_pieces pairs) tokens h) in lead_of is_lead (codes "lemma") tokens k.0 k.1
+led_spelled tokens (Step name value ground) h = let k = keyword_first (begins_from_spells (step_pieces name value ground) tokens h) in lead_of is_lead (codes "step") tokens k.0 k.1
+led_spelled tokens (Wipe name) h = let k = keyword_first (begins_from_spells (wipe_pieces name) tokens h) in lead_of is_lead (codes "wipe") tokens k.0 k.1
+led_spelled tokens (Users names) h = let k = keyword_first (begins_from_spells (users_pieces names) tokens h) in lead_of is_lead (codes "none") tokens k.0 k.1
+led_spelled tokens End h = let k = keyword_first (begins_from_spells (Keyword (codes "end") ∷ []) tokens h) in lead_of is_lead (codes "end") tokens k.0 k.1
+
+phrase_known : (tokens : List Lexeme) (s : ProofPhrase) → IsSpelled tokens s → All IsKnown tokens
+phrase_known tokens Header h = header_known (codes "proof") tokens h
+phrase_known tokens (Lemma pairs) h = spelled_known tokens (lemma_pieces pairs) h
+phrase_known tokens (Step name value ground) h = spelled_known tokens (step_pieces name value ground) h
+phrase_known tokens (Wipe name) h = spelled_known tokens (wipe_pieces name) h
+phrase_known tokens (Users names) h = spelled_known tokens (users_pieces names) h
+phrase_known tokens End h = spelled_known tokens (Keyword (codes "end") ∷ []) h
+
+pub are_phrases : ArePhrases phrases
+are_phrases = record {
+  takes = phrase_is;
+  again = λ tokens s h range. ended_phrase phrase_at tokens s (phrase_again tokens s h range);
+  led = led_spelled;
+  plain = λ bytes s short h. led_plain is_lead bytes short (led_spelled (tokens_of bytes) s h) (phrase_known (tokens_of bytes) s h);
+  no_form = phrase_no_form;
+  no_var = refl;
+  no_add = refl;
+}

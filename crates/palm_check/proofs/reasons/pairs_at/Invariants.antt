@@ -1,6 +1,0 @@
-use Rattle.std.proofs.Common.{◌≡◌, take}
-use Rattle.palm_claim.specs.Step.{pairs_at}
-use Rattle.palm_check.proofs.reasons.pairs_at.Given as goal
-
-abbrev pub invariant-loop-number : goal.invariant-loop-number
-invariant-loop-number l = l.pairs.items ≡ pairs_at l.proved (take l.number-index l.reasons)

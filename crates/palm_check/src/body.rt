@@ -1,0 +1,198 @@
+//! What is kept of a certificate besides what it lists: how far it has come, and the pairs that its steps proved.
+ghost use Rattle.std.specs.Prelude.{All, IfOk, OnOk};
+ghost use Rattle.palm_book.specs.Book.{Contents};
+ghost use Rattle.palm_check.specs.Kept.{HasDeclared, IsKept, TakesPhrase, said};
+ghost use Rattle.palm_claim.specs.Draft.{IsOpen, Leads, MayFollow};
+ghost use Rattle.palm_claim.specs.Statement.{IsStepNumber};
+ghost use Rattle.palm_claim.specs.declared.statement.CertificatePhrase.TheVariants as phrases;
+
+use crate::phrases::{is_lead, read_phrase};
+use crate::stages::may_stand;
+use palm_base::{NoMemory, Pair, Value};
+use palm_book::Book;
+use palm_claim::{Cause, CertificatePhrase, Claim, Proved, Stage, Statement, Verdict};
+use palm_listed::Listed;
+use palm_read::{Cursor, LineError, Name};
+use std::alloc::Global;
+use std::mem;
+use text_check::{Body, check_step, check_wiped};
+
+/// What is kept of a certificate besides what it lists.
+#[derive(Drop)]
+pub struct CertificateBody {
+    stage: Stage,
+    proved: Vec<Pair>,
+}
+
+impl Body for CertificateBody {
+    ghost use Rattle.palm_check.specs.Kept.{HasDeclared, said};
+    ghost use Rattle.palm_claim.proofs.cited.Phrases.{are_phrases as spelled_phrases};
+    ghost use Rattle.palm_claim.specs.Draft as drafts;
+    ghost use Rattle.palm_claim.specs.Verdict.{of_certificates};
+    ghost use Rattle.std.specs.Prelude.{refl};
+
+    type Phrase = CertificatePhrase;
+
+    type Verdict = Verdict;
+
+    ghost Text = { drafts.Draft };
+
+    ghost own = { of_certificates };
+
+    ghost blank = { drafts.blank };
+
+    ghost draft = { said };
+
+    ghost keeps = { HasDeclared };
+
+    ghost are_phrases = { spelled_phrases };
+
+    ghost of_book = { λ book body. refl };
+
+    fn is_lead(word: &[u8]) -> bool {
+        is_lead(word)
+    }
+
+    fn read(cursor: &mut Cursor<'_>, alloc: Global) -> Result<CertificatePhrase, LineError> {
+        read_phrase(cursor, alloc)
+    }
+
+    fn new(alloc: Global) -> CertificateBody {
+        CertificateBody {
+            stage: Stage::Unopened,
+            proved: Vec::new(alloc),
+        }
+    }
+
+    fn may_stand(&self, statement: &Statement<CertificatePhrase>) -> bool {
+        may_stand(&self.stage, statement)
+    }
+
+    fn declared(&mut self) -> Result<(), NoMemory> {
+        Ok(())
+    }
+
+    fn listed(&mut self) {
+        self.stage = Stage::Listing;
+    }
+
+    fn take(
+        &mut self,
+        alloc: Global,
+        listed: &mut Listed,
+        phrase: CertificatePhrase,
+    ) -> Result<Option<Cause>, NoMemory> {
+        match phrase {
+            CertificatePhrase::Header => {
+                self.stage = Stage::Declaring;
+                Ok(None)
+            }
+            CertificatePhrase::Step {
+                name,
+                value,
+                by,
+                reasons,
+            } => self.prove(alloc, listed, &name, value, &by, reasons.as_slice()),
+            CertificatePhrase::ValueClaim { name, value } => {
+                Ok(self.claim_value(listed, &name, value))
+            }
+            CertificatePhrase::ConflictClaim(name) => Ok(self.claim_conflict(listed, &name)),
+            CertificatePhrase::End => {
+                self.close();
+                Ok(None)
+            }
+        }
+    }
+
+    fn ending(self, book: Book, line: u64) -> Verdict {
+        let CertificateBody { stage, .. } = self;
+        match stage {
+            Stage::Closed(claim) => Verdict::Accepted(Proved { claim, book }),
+            _ => Verdict::Refused {
+                line,
+                cause: Cause::NotReached,
+            },
+        }
+    }
+
+    fn refused(line: u64, cause: Cause) -> Verdict {
+        Verdict::Refused { line, cause }
+    }
+}
+
+impl CertificateBody {
+    /// Takes a step.
+    fn prove(
+        &mut self,
+        alloc: Global,
+        listed: &mut Listed,
+        name: &Name,
+        value: Value,
+        by: &Name,
+        reasons: &[u32],
+    ) -> Result<Option<Cause>, NoMemory>
+        requires stands { IsOpen self.old.stage }
+        requires range { All IsStepNumber reasons.now }
+        requires kept { IsKept listed.old self.old }
+        ensures takes { IfOk result (λ cause. TakesPhrase (said listed.old.book self.old) (phrases.Step name.now value by.now reasons.now) cause
+            (said listed.new.book self.new)) }
+        ensures kept { OnOk result (IsKept listed.new self.new) }
+    {
+        let Some(pair) = listed.declared_pair(name, value) else {
+            return Ok(Some(Cause::Misdeclared));
+        };
+        match check_step(alloc, listed, &self.proved, &pair, by, reasons)? {
+            Err(cause) => Ok(Some(cause)),
+            Ok(_) => {
+                self.proved.push(pair)?;
+                self.stage = Stage::Proving;
+                Ok(None)
+            }
+        }
+    }
+
+    /// Takes the claim that a value is gone.
+    fn claim_value(&mut self, listed: &mut Listed, name: &Name, value: Value) -> Option<Cause>
+        requires stands { IsOpen self.old.stage }
+        requires kept { IsKept listed.old self.old }
+        ensures takes { TakesPhrase (said listed.old.book self.old) (phrases.ValueClaim name.now value) result (said listed.new.book self.new) }
+        ensures kept { IsKept listed.new self.new }
+    {
+        let Some(pair) = listed.declared_pair(name, value) else {
+            return Some(Cause::Misdeclared);
+        };
+        if !listed.is_gone(&pair, &self.proved) {
+            return Some(Cause::NotReached);
+        }
+        self.stage = Stage::Claimed(Claim::Gone(pair));
+        None
+    }
+
+    /// Takes the claim that a variable has no value.
+    fn claim_conflict(&mut self, listed: &mut Listed, name: &Name) -> Option<Cause>
+        requires stands { IsOpen self.old.stage }
+        requires kept { IsKept listed.old self.old }
+        ensures takes { TakesPhrase (said listed.old.book self.old) (phrases.ConflictClaim name.now) result (said listed.new.book self.new) }
+        ensures kept { IsKept listed.new self.new }
+    {
+        match check_wiped(listed, &self.proved, name) {
+            Ok(var) => {
+                self.stage = Stage::Claimed(Claim::Conflict(var));
+                None
+            }
+            Err(cause) => Some(cause),
+        }
+    }
+
+    /// Takes the end.
+    fn close(&mut self)
+        requires stands { MayFollow self.old.stage phrases.End }
+        ensures leads { (book : Contents) → Leads (said book self.old) phrases.End (said book self.new) }
+        ensures kept { (book : Contents) → HasDeclared book self.old → HasDeclared book self.new }
+    {
+        let stage = mem::replace(&mut self.stage, Stage::Unopened);
+        if let Stage::Claimed(claim) = stage {
+            self.stage = Stage::Closed(claim);
+        }
+    }
+}

@@ -1,0 +1,65 @@
+-- What lines say in texts that list variables and constraints as a session of version 2 does, and say all else in phrases of
+-- their own. Certificates and proofs are such texts.
+use Rattle.std.specs.Prelude.{◌≡◌, ℕ, ◌≤◌, Bool, true, false, Option, Some, None, List, length, codes}
+use Rattle.palm_read.specs.Bytes.{IsComment, IsPlain}
+use Rattle.palm_read.specs.Form.{Form}
+use Rattle.palm_read.specs.Grammar.{IsForm}
+use Rattle.palm_read.specs.Reader.Steps.{Reading, ◌>>=◌, choose, front_text, is_empty}
+use Rattle.palm_read.specs.Reading.{IsRead}
+use Rattle.palm_read.specs.Token.{Lexeme, tokens_of}
+use Rattle.palm_read.specs.declared.line.Line.{Line}
+use Rattle.palm_read.specs.declared.line.Line.TheVariants.{Comment as CommentLine, Var, Add}
+use Rattle.palm_read.specs.declared.mode.Mode.TheVariants.{Two}
+use Rattle.palm_read.specs.declared.tokens.TokenKind.TheVariants.{Word}
+use Rattle.palm_claim.specs.declared.statement.Statement.{Statement}
+use Rattle.palm_claim.specs.declared.statement.Statement.TheVariants.{Comment, Variable, Constraint, Phrase}
+
+-- the phrases of such texts: the words that they begin with, what is read of one in front of tokens, how one is spelled, and
+-- whether its numbers are in their ranges
+pub record Phrases (P : Type 0) : Type 1 where
+  pub is_lead : List ℕ → Bool
+  pub phrase_at : List Lexeme → Reading P
+  pub IsSpelled : List Lexeme → P → Type 0
+  pub AreInRange : P → Type 0
+
+-- what a line says
+abbrev pub Says : {P : Type 0} → Phrases P → List ℕ → Statement P → Type 0
+Says phrases line Comment = IsComment line
+Says phrases line (Variable name domain) = IsRead Two line (Var name domain)
+Says phrases line (Constraint name shape) = IsRead Two line (Add name shape)
+Says phrases line (Phrase phrase) = IsPlain line × phrases.IsSpelled (tokens_of line) phrase × phrases.AreInRange phrase
+
+-- ---- how it is read
+
+-- what a line of a session says there, if anything
+abbrev pub of_line : {P : Type 0} → Line → Option (Statement P)
+of_line CommentLine = Some Comment
+of_line (Var name domain) = Some (Variable name domain)
+of_line (Add name shape) = Some (Constraint name shape)
+of_line _ = None
+
+abbrev pub is_some_lead : (List ℕ → Bool) → Option (List ℕ) → Bool
+is_some_lead is_lead None = false
+is_some_lead is_lead (Some word) = is_lead word
+
+-- the token in front is the first word of a phrase
+unfoldable pub begins_phrase : (List ℕ → Bool) → List Lexeme → Bool
+begins_phrase is_lead tokens = is_some_lead is_lead (front_text Word tokens)
+
+-- the phrase of all tokens of a line
+unfoldable pub phrase_of : {P : Type 0} → (List Lexeme → Reading P) → List Lexeme → Option P
+phrase_of phrase_at tokens = do
+  phrase ← phrase_at tokens
+  choose (is_empty phrase.1) (Some phrase.0) None
+
+-- phrases are read as they are spelled, in plain lines that begin with words of their own, and none is a form of a session
+pub record ArePhrases {P : Type 0} (phrases : Phrases P) : Type 0 where
+  pub takes : (tokens : List Lexeme) (x : P × List Lexeme) → phrases.phrase_at tokens ≡ Some x → is_empty x.1 ≡ true
+      → phrases.IsSpelled tokens x.0 × phrases.AreInRange x.0
+  pub again : (tokens : List Lexeme) (phrase : P) → phrases.IsSpelled tokens phrase → phrases.AreInRange phrase
+      → phrase_of phrases.phrase_at tokens ≡ Some phrase
+  pub led : (tokens : List Lexeme) (phrase : P) → phrases.IsSpelled tokens phrase → begins_phrase phrases.is_lead tokens ≡ true
+  pub plain : (bytes : List ℕ) (phrase : P) → length bytes ≤ 65536 → phrases.IsSpelled (tokens_of bytes) phrase → IsPlain bytes
+  pub no_form : (tokens : List Lexeme) (phrase : P) (form : Form) → phrases.IsSpelled tokens phrase → IsForm tokens form → ⊥
+  pub no_var : phrases.is_lead (codes "var") ≡ false
+  pub no_add : phrases.is_lead (codes "add") ≡ false

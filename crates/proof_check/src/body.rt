@@ -1,0 +1,406 @@
+//! What is kept of a proof besides what it lists: how far it has come, the lemmas that are done, and of the lemma begun what it
+//! assumes, what its steps name and the pairs that they proved.
+ghost use Rattle.std.specs.Prelude.{◌≡◌, ◌<◌, ◌≤◌, [], Some, length, slice_get, All, IfOk, OnOk};
+ghost use Rattle.palm_base.specs.Tells.{Tells};
+ghost use Rattle.palm_book.specs.Book.{Contents, initial_of};
+ghost use Rattle.palm_book.specs.declared.book.BookCon.{BookCon as BookConTerm};
+ghost use Rattle.palm_claim.specs.Statement.{IsStepNumber};
+ghost use Rattle.palm_claim.specs.Step.{IsOfLemma};
+ghost use Rattle.palm_claim.specs.declared.ground.Ground.TheVariants as Ground;
+ghost use Rattle.palm_model.specs.Domains.{Has};
+ghost use Rattle.proof_check.specs.Kept.{AssumesOrNot, IsReasoned, IsKept, TakesGround, TakesPhrase, noting_constraint, noting_lemma, said};
+ghost use Rattle.proof_check.specs.Marks.{IsUsage};
+ghost use Rattle.proof_text.specs.Draft.{Leads, MayFollow, given_in, with_lemma, with_step, with_wipe};
+ghost use Rattle.proof_text.specs.Statement.{IsGroundInRange, IsLemmaNumber};
+ghost use Rattle.proof_text.specs.declared.statement.ProofPhrase.TheVariants as phrases;
+ghost use Rattle.proof_text.specs.declared.statement.Stage.TheVariants as Stage;
+
+use crate::assumed::{forget, is_other_assumed, put, value_of};
+use crate::lemmas::{copy_lemma, is_by_others, unproved_lemma};
+use crate::marks::usage;
+use crate::phrases::{is_lead, read_phrase};
+use crate::stages::may_stand;
+use crate::users::{are_listed, are_names, marked_users};
+use palm_base::{NoMemory, Pair, Value};
+use palm_book::Book;
+use palm_claim::{Cause, Ground, Statement};
+use palm_listed::Listed;
+use palm_read::{Cursor, LineError, Name};
+use proof_text::{Lemma, LemmaList, NamedPair, PairList, ProofPhrase, ProofVerdict, Stage};
+use std::alloc::Global;
+use std::mem;
+use text_check::{Body, check_step, check_wiped};
+
+/// What is kept of a proof besides what it lists.
+#[derive(Drop)]
+pub struct ProofBody {
+    stage: Stage,
+    /// The lemmas that are done.
+    lemmas: LemmaList,
+    /// The lemma begun: what it assumes, and what its steps name.
+    begun: Lemma,
+    /// The pairs of the lemma begun, by their variables.
+    assumed: Vec<Option<Value>>,
+    /// The pair that each step of the lemma begun proved.
+    proved: Vec<Pair>,
+}
+
+impl Body for ProofBody {
+    ghost use Rattle.proof_check.specs.Kept.{IsReasoned, said};
+    ghost use Rattle.proof_text.proofs.cited.Phrases.{are_phrases as spelled_phrases};
+    ghost use Rattle.proof_text.specs.Draft as drafts;
+    ghost use Rattle.proof_text.specs.Verdict.{of_proofs};
+    ghost use Rattle.std.specs.Prelude.{refl};
+
+    type Phrase = ProofPhrase;
+
+    type Verdict = ProofVerdict;
+
+    ghost Text = { drafts.Draft };
+
+    ghost own = { of_proofs };
+
+    ghost blank = { drafts.blank };
+
+    ghost draft = { said };
+
+    ghost keeps = { IsReasoned };
+
+    ghost are_phrases = { spelled_phrases };
+
+    ghost of_book = { λ book body. refl };
+
+    fn is_lead(word: &[u8]) -> bool {
+        is_lead(word)
+    }
+
+    fn read(cursor: &mut Cursor<'_>, alloc: Global) -> Result<ProofPhrase, LineError> {
+        read_phrase(cursor, alloc)
+    }
+
+    fn new(alloc: Global) -> ProofBody {
+        ProofBody {
+            stage: Stage::Unopened,
+            lemmas: LemmaList::new(alloc),
+            begun: unproved_lemma(alloc, PairList::new(alloc)),
+            assumed: Vec::new(alloc),
+            proved: Vec::new(alloc),
+        }
+    }
+
+    fn may_stand(&self, statement: &Statement<ProofPhrase>) -> bool {
+        may_stand(&self.stage, statement)
+    }
+
+    /// Nothing is assumed for the variable.
+    fn declared(&mut self) -> Result<(), NoMemory> {
+        self.assumed.push(None)?;
+        Ok(())
+    }
+
+    fn listed(&mut self) {
+        self.stage = Stage::Listing;
+    }
+
+    fn take(
+        &mut self,
+        alloc: Global,
+        listed: &mut Listed,
+        phrase: ProofPhrase,
+    ) -> Result<Option<Cause>, NoMemory> {
+        match phrase {
+            ProofPhrase::Header => {
+                self.stage = Stage::Declaring;
+                Ok(None)
+            }
+            ProofPhrase::Lemma(pairs) => self.begin(alloc, listed, pairs.as_slice()),
+            ProofPhrase::Step {
+                name,
+                value,
+                ground,
+            } => self.prove(alloc, listed, &name, value, &ground),
+            ProofPhrase::Wipe(name) => self.wipe(listed, &name),
+            ProofPhrase::Users(names) => self.tell(alloc, listed, names.as_slice()),
+            ProofPhrase::End => {
+                self.close();
+                Ok(None)
+            }
+        }
+    }
+
+    fn ending(self, book: Book, line: u64) -> ProofVerdict {
+        let ProofBody { stage, .. } = self;
+        match stage {
+            Stage::Closed(users) => ProofVerdict::Accepted { book, users },
+            _ => ProofVerdict::Refused {
+                line,
+                cause: Cause::NotReached,
+            },
+        }
+    }
+
+    fn refused(line: u64, cause: Cause) -> ProofVerdict {
+        ProofVerdict::Refused { line, cause }
+    }
+}
+
+impl ProofBody {
+    /// Takes the first line of a lemma.
+    fn begin(
+        &mut self,
+        alloc: Global,
+        listed: &Listed,
+        named: &[NamedPair],
+    ) -> Result<Option<Cause>, NoMemory>
+        requires stands { MayFollow self.old.stage (phrases.Lemma named.now) }
+        requires kept { IsKept listed.now self.old }
+        ensures takes { IfOk result (λ cause. TakesPhrase (said listed.now.book self.old) (phrases.Lemma named.now) cause (said listed.now.book self.new)) }
+        ensures kept { OnOk result (IsKept listed.now self.new) }
+    {
+        self.clear(alloc);
+        for pair in named {
+            if !self.assume(listed, &pair.name, pair.value)? {
+                return Ok(Some(Cause::Misdeclared));
+            }
+        }
+        Ok(None)
+    }
+
+    /// Begins a lemma that assumes nothing.
+    fn clear(&mut self, alloc: Global)
+        requires { (book : Contents) × IsReasoned book self.old }
+        ensures begun { (book : Contents)
+            → said book self.new ≡ with_lemma (said book self.old) [] }
+        ensures kept { (book : Contents) → IsReasoned book self.old → IsReasoned book self.new }
+    {
+        forget(&mut self.assumed, self.begun.pairs.as_slice());
+        self.begun = unproved_lemma(alloc, PairList::new(alloc));
+        self.proved.clear();
+        self.stage = Stage::Reasoning;
+    }
+
+    /// Assumes the pair with the name and the value too. It must be declared, and nothing be assumed for its variable.
+    fn assume(&mut self, listed: &Listed, name: &Name, value: Value) -> Result<bool, NoMemory>
+        requires kept { IsKept listed.now self.old }
+        ensures assumes { IfOk result (λ is. AssumesOrNot (said listed.now.book self.old) name.now value is (said listed.now.book self.new)) }
+        ensures kept { OnOk result (IsKept listed.now self.new) }
+    {
+        let Some(pair) = listed.declared_pair(name, value) else {
+            return Ok(false);
+        };
+        if value_of(&self.assumed, pair.var).is_some() {
+            return Ok(false);
+        }
+        self.begun.pairs.push(pair.copy())?;
+        put(&mut self.assumed, pair.var, Some(pair.value));
+        Ok(true)
+    }
+
+    /// Takes a step.
+    fn prove(
+        &mut self,
+        alloc: Global,
+        listed: &mut Listed,
+        name: &Name,
+        value: Value,
+        basis: &Ground,
+    ) -> Result<Option<Cause>, NoMemory>
+        requires stands { self.old.stage ≡ Stage.Reasoning }
+        requires range { IsGroundInRange basis.now }
+        requires kept { IsKept listed.old self.old }
+        ensures takes { IfOk result (λ cause. TakesPhrase (said listed.old.book self.old) (phrases.Step name.now value basis.now) cause
+            (said listed.new.book self.new)) }
+        ensures kept { OnOk result (IsKept listed.new self.new) }
+    {
+        let Some(pair) = listed.declared_pair(name, value) else {
+            return Ok(Some(Cause::Misdeclared));
+        };
+        match basis {
+            Ground::By { name, reasons } => {
+                self.prove_by(alloc, listed, pair, name, reasons.as_slice())
+            }
+            Ground::Assumed => self.prove_assumed(listed, pair),
+            Ground::OfLemma(number) => self.prove_of_lemma(listed, pair, *number),
+        }
+    }
+
+    /// Takes a step of a declared pair by a constraint.
+    fn prove_by(
+        &mut self,
+        alloc: Global,
+        listed: &mut Listed,
+        pair: Pair,
+        by: &Name,
+        reasons: &[u32],
+    ) -> Result<Option<Cause>, NoMemory>
+        requires stands { self.old.stage ≡ Stage.Reasoning }
+        requires declared { Has (initial_of listed.old.book) pair.var pair.value }
+        requires range { All IsStepNumber reasons.now }
+        requires kept { IsKept listed.old self.old }
+        ensures takes { IfOk result (λ cause. TakesGround (said listed.old.book self.old) pair (Ground.By by.now reasons.now) cause (said listed.new.book self.new)) }
+        ensures kept { OnOk result (IsKept listed.new self.new) }
+    {
+        match check_step(alloc, listed, &self.proved, &pair, by, reasons)? {
+            Err(cause) => Ok(Some(cause)),
+            Ok(place) => {
+                self.add_step_by(listed, pair, place)?;
+                Ok(None)
+            }
+        }
+    }
+
+    /// Adds a step of the pair by the constraint at a place.
+    fn add_step_by(&mut self, listed: &Listed, pair: Pair, place: usize) -> Result<(), NoMemory>
+        requires kept { IsKept listed.now self.old }
+        requires place { place < length listed.now.book.constraints }
+        requires declared { Has (initial_of listed.now.book) pair.var pair.value }
+        ensures ok { OnOk result ((c : BookConTerm) → slice_get listed.now.book.constraints place ≡ Some c
+            → said listed.now.book self.new ≡ with_step (said listed.now.book self.old) pair (noting_constraint self.old.begun c.number)) }
+        ensures kept { OnOk result (IsKept listed.now self.new) }
+    {
+        self.begun
+            .constraints
+            .push(listed.book.constraint(place).number)?;
+        self.proved.push(pair)?;
+        Ok(())
+    }
+
+    /// Takes a step of a declared pair by what is assumed.
+    fn prove_assumed(&mut self, listed: &Listed, pair: Pair) -> Result<Option<Cause>, NoMemory>
+        requires stands { self.old.stage ≡ Stage.Reasoning }
+        requires declared { Has (initial_of listed.now.book) pair.var pair.value }
+        requires kept { IsKept listed.now self.old }
+        ensures takes { IfOk result (λ cause. TakesGround (said listed.now.book self.old) pair Ground.Assumed cause (said listed.now.book self.new)) }
+        ensures kept { OnOk result (IsKept listed.now self.new) }
+    {
+        let _ = listed;
+        if !is_other_assumed(&self.assumed, &pair) {
+            return Ok(Some(Cause::NotRight));
+        }
+        self.proved.push(pair)?;
+        Ok(None)
+    }
+
+    /// Takes a step of a declared pair by a lemma.
+    fn prove_of_lemma(
+        &mut self,
+        listed: &Listed,
+        pair: Pair,
+        number: u64,
+    ) -> Result<Option<Cause>, NoMemory>
+        requires stands { self.old.stage ≡ Stage.Reasoning }
+        requires declared { Has (initial_of listed.now.book) pair.var pair.value }
+        requires range { IsLemmaNumber number }
+        requires kept { IsKept listed.now self.old }
+        ensures takes { IfOk result (λ cause. TakesGround (said listed.now.book self.old) pair (Ground.OfLemma number) cause (said listed.now.book self.new)) }
+        ensures kept { OnOk result (IsKept listed.now self.new) }
+    {
+        if number > self.lemmas.len() as u64 {
+            return Ok(Some(Cause::Unproved));
+        }
+        if !self.is_of_lemma(&pair, number) {
+            return Ok(Some(Cause::NotRight));
+        }
+        self.add_step_of_lemma(pair, number)?;
+        Ok(None)
+    }
+
+    /// Whether the pair is one of the lemma with the number, and all other pairs of that lemma are assumed.
+    fn is_of_lemma(&self, pair: &Pair, number: u64) -> bool
+        requires kept { (book : Contents) × IsReasoned book self.now }
+        requires early { (1 ≤ number) × (number ≤ length self.now.lemmas) }
+        ensures { (book : Contents) → Tells result (IsOfLemma (given_in (said book self.now)) number pair.now) }
+    {
+        let lemma = &self.lemmas.as_slice()[number as usize - 1];
+        is_by_others(&self.assumed, lemma.pairs.as_slice(), pair)
+    }
+
+    /// Adds a step of the pair by the lemma with the number.
+    fn add_step_of_lemma(&mut self, pair: Pair, number: u64) -> Result<(), NoMemory>
+        requires { (1 ≤ number) × (number ≤ length self.old.lemmas) }
+        ensures ok { OnOk result ((book : Contents) → said book self.new ≡ with_step (said book self.old) pair (noting_lemma self.old.begun number)) }
+        ensures kept { OnOk result ((book : Contents) → Has (initial_of book) pair.var pair.value → IsReasoned book self.old → IsReasoned book self.new) }
+    {
+        self.begun.lemmas.push(number)?;
+        self.proved.push(pair)?;
+        Ok(())
+    }
+
+    /// Takes the wipe of a variable, with which the lemma begun is done.
+    fn wipe(&mut self, listed: &mut Listed, name: &Name) -> Result<Option<Cause>, NoMemory>
+        requires stands { self.old.stage ≡ Stage.Reasoning }
+        requires kept { IsKept listed.old self.old }
+        ensures takes { IfOk result (λ cause. TakesPhrase (said listed.old.book self.old) (phrases.Wipe name.now) cause (said listed.new.book self.new)) }
+        ensures kept { OnOk result (IsKept listed.new self.new) }
+    {
+        match check_wiped(listed, &self.proved, name) {
+            Err(cause) => Ok(Some(cause)),
+            Ok(_) => {
+                self.add_lemma()?;
+                Ok(None)
+            }
+        }
+    }
+
+    /// Adds the lemma begun to those that are done.
+    fn add_lemma(&mut self) -> Result<(), NoMemory>
+        ensures ok { OnOk result ((book : Contents) → said book self.new ≡ with_wipe (said book self.old)) }
+        ensures kept { OnOk result ((book : Contents) → IsReasoned book self.old → IsReasoned book self.new) }
+    {
+        let lemma = copy_lemma(&self.begun)?;
+        self.lemmas.push(lemma)?;
+        self.stage = Stage::Wiped;
+        Ok(())
+    }
+
+    /// Takes the names of the constraints that the last lemma uses.
+    fn tell(
+        &mut self,
+        alloc: Global,
+        listed: &Listed,
+        names: &[Name],
+    ) -> Result<Option<Cause>, NoMemory>
+        requires stands { self.old.stage ≡ Stage.Wiped }
+        requires kept { IsKept listed.now self.old }
+        ensures takes { IfOk result (λ cause. TakesPhrase (said listed.now.book self.old) (phrases.Users names.now) cause (said listed.now.book self.new)) }
+        ensures kept { OnOk result (IsKept listed.now self.new) }
+    {
+        if !are_listed(&listed.book, names) {
+            return Ok(Some(Cause::Misdeclared));
+        }
+        if self.begun.pairs.len() > 0 {
+            return Ok(Some(Cause::NotReached));
+        }
+        let marks = self.usage(alloc, &listed.book)?;
+        if !are_names(&listed.book, &marks, names) {
+            return Ok(Some(Cause::NotReached));
+        }
+        self.stage = Stage::Told(marked_users(alloc, &listed.book, &marks)?);
+        Ok(None)
+    }
+
+    /// Marks of the constraints that the last lemma uses, by their numbers.
+    fn usage(&self, alloc: Global, book: &Book) -> Result<Vec<bool>, NoMemory>
+        requires { IsReasoned book.now self.now }
+        ensures { IfOk result (λ marks. IsUsage self.now.lemmas self.now.begun marks.items) }
+    {
+        usage(
+            alloc,
+            book.constraints(),
+            self.lemmas.as_slice(),
+            &self.begun,
+        )
+    }
+
+    /// Takes the end.
+    fn close(&mut self)
+        requires stands { MayFollow self.old.stage phrases.End }
+        ensures leads { (book : Contents) → Leads (said book self.old) phrases.End (said book self.new) }
+        ensures kept { (book : Contents) → IsReasoned book self.old → IsReasoned book self.new }
+    {
+        let stage = mem::replace(&mut self.stage, Stage::Unopened);
+        if let Stage::Told(users) = stage {
+            self.stage = Stage::Closed(users);
+        }
+    }
+}

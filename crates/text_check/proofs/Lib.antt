@@ -1,0 +1,4 @@
+pub mod Declaring
+pub mod Keeping
+pub mod Reading
+pub mod cited

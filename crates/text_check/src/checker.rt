@@ -1,0 +1,179 @@
+//! What is kept of a text: what it lists, and the body of its family.
+ghost use Rattle.std.specs.Prelude.{◌≡◌, ◌≤◌, length, IfOk, OnOk};
+ghost use Rattle.palm_base.specs.Tells.{Tells};
+ghost use Rattle.palm_book.specs.Book.{AreValues, HasConstraint, HasVariable, with_listed, with_variable};
+ghost use Rattle.palm_claim.specs.Own.{family_of};
+ghost use Rattle.palm_claim.specs.Taking.{TakesLine, TakesStatement};
+ghost use Rattle.palm_claim.specs.declared.statement.Statement.TheVariants as statements;
+ghost use Rattle.palm_model.specs.Constraint.{IsWellFormed};
+ghost use Rattle.palm_read.specs.Limits.{IsBeyond};
+ghost use Rattle.palm_read.specs.Name.{IsNameText};
+ghost use Rattle.palm_read.specs.Sound.{IsSound};
+ghost use Rattle.palm_read.specs.declared.line.Line.TheVariants.{Add, Var};
+ghost use Rattle.text_check.specs.Kept.{IsChecker, draft_of};
+ghost use Rattle.text_check.specs.Reading.{IsBeyondAlone, IsSoundStatement};
+
+use crate::body::Body;
+use crate::statements::{Reading, read_statement};
+use palm_base::{NoMemory, ValueList};
+use palm_book::{MOST_CONSTRAINTS, MOST_VARIABLES, Unresolved, values_in};
+use palm_claim::{Cause, Statement};
+use palm_listed::Listed;
+use palm_model::Con;
+use palm_read::{DomainText, Name, Shape};
+use std::alloc::Global;
+
+/// What is kept of the lines so far.
+#[derive(Drop)]
+pub struct Checker<B> {
+    alloc: Global,
+    listed: Listed,
+    body: B,
+}
+
+impl<B: Body> Checker<B> {
+    /// No line was read.
+    pub fn new(alloc: Global) -> Checker<B>
+        ensures blank { draft_of B.draft result ≡ B.blank }
+        ensures kept { IsChecker B.keeps result }
+    {
+        Checker {
+            alloc,
+            listed: Listed::new(alloc),
+            body: B::new(alloc),
+        }
+    }
+
+    /// Takes the next line, or answers its first cause.
+    pub fn take(&mut self, line: &[u8]) -> Result<Option<Cause>, NoMemory>
+        requires { IsChecker B.keeps self.old }
+        ensures takes { IfOk result (λ cause. TakesLine (family_of B.own) (draft_of B.draft self.old) line.now cause (draft_of B.draft self.new)) }
+        ensures kept { OnOk result (IsChecker B.keeps self.new) }
+    {
+        let Some(
+            Reading {
+                statement,
+                is_beyond,
+            },
+        ) = read_statement::<B>(self.alloc, line)?
+        else {
+            return Ok(Some(Cause::Malformed));
+        };
+        if !self.body.may_stand(&statement) {
+            return Ok(Some(Cause::Malformed));
+        }
+        self.hear(statement, is_beyond)
+    }
+
+    /// Takes what a line says that may stand there, or answers its first cause. It is told whether the line breaks a limit
+    /// by itself.
+    fn hear(
+        &mut self,
+        statement: Statement<B::Phrase>,
+        is_beyond: bool,
+    ) -> Result<Option<Cause>, NoMemory>
+        requires stands { B.own.MayStand (draft_of B.draft self.old) statement }
+        requires sound { IsSoundStatement B.own.phrases statement }
+        requires beyond { Tells is_beyond (IsBeyondAlone statement) }
+        requires kept { IsChecker B.keeps self.old }
+        ensures takes { IfOk result (λ cause. TakesStatement (family_of B.own) (draft_of B.draft self.old) statement cause (draft_of B.draft self.new)) }
+        ensures kept { OnOk result (IsChecker B.keeps self.new) }
+    {
+        match statement {
+            Statement::Comment => Ok(None),
+            Statement::Variable { name, domain } => self.declare(name, domain, is_beyond),
+            Statement::Constraint { name, shape } => self.list(name, shape, is_beyond),
+            Statement::Phrase(phrase) => self.body.take(self.alloc, &mut self.listed, phrase),
+        }
+    }
+
+    /// Takes a variable.
+    fn declare(
+        &mut self,
+        name: Name,
+        domain: DomainText,
+        is_beyond: bool,
+    ) -> Result<Option<Cause>, NoMemory>
+        requires stands { B.own.MayStand (draft_of B.draft self.old) (statements.Variable name domain) }
+        requires sound { IsSound (Var name domain) }
+        requires beyond { Tells is_beyond (IsBeyond (Var name domain)) }
+        requires kept { IsChecker B.keeps self.old }
+        ensures takes { IfOk result (λ cause. TakesStatement (family_of B.own) (draft_of B.draft self.old) (statements.Variable name domain) cause
+            (draft_of B.draft self.new)) }
+        ensures kept { OnOk result (IsChecker B.keeps self.new) }
+    {
+        if self.listed.book.has_variable(&name) {
+            return Ok(Some(Cause::Misdeclared));
+        }
+        if is_beyond || self.listed.book.variables() >= MOST_VARIABLES as u32 {
+            return Ok(Some(Cause::Beyond));
+        }
+        let values = values_in(self.alloc, domain)?;
+        self.add_variable(name, values)?;
+        Ok(None)
+    }
+
+    /// Adds a variable.
+    fn add_variable(&mut self, name: Name, values: ValueList) -> Result<(), NoMemory>
+        requires kept { IsChecker B.keeps self.old }
+        requires text { IsNameText name }
+        requires fresh { HasVariable self.old.listed.book name → ⊥ }
+        requires values { AreValues values }
+        requires room { MOST_VARIABLES ≤ length self.old.listed.book.variables → ⊥ }
+        ensures ok { OnOk result (draft_of B.draft self.new ≡ B.own.declared (draft_of B.draft self.old) (with_variable self.old.listed.book name values)) }
+        ensures kept { OnOk result (IsChecker B.keeps self.new) }
+    {
+        self.listed.declare(name, values)?;
+        self.body.declared()?;
+        Ok(())
+    }
+
+    /// Takes a constraint.
+    fn list(&mut self, name: Name, shape: Shape, is_beyond: bool) -> Result<Option<Cause>, NoMemory>
+        requires stands { B.own.MayStand (draft_of B.draft self.old) (statements.Constraint name shape) }
+        requires sound { IsSound (Add name shape) }
+        requires beyond { Tells is_beyond (IsBeyond (Add name shape)) }
+        requires kept { IsChecker B.keeps self.old }
+        ensures takes { IfOk result (λ cause. TakesStatement (family_of B.own) (draft_of B.draft self.old) (statements.Constraint name shape) cause
+            (draft_of B.draft self.new)) }
+        ensures kept { OnOk result (IsChecker B.keeps self.new) }
+    {
+        if self.listed.book.has_constraint(&name) {
+            return Ok(Some(Cause::Misdeclared));
+        }
+        let con = match self.listed.book.resolve(self.alloc, shape) {
+            Ok(con) => con,
+            Err(Unresolved::UnknownName) => return Ok(Some(Cause::Misdeclared)),
+            Err(Unresolved::TooLarge) => return Ok(Some(Cause::Beyond)),
+            Err(Unresolved::NoMemory) => return Err(NoMemory),
+        };
+        if is_beyond || self.listed.book.constraints() >= MOST_CONSTRAINTS {
+            return Ok(Some(Cause::Beyond));
+        }
+        self.add_constraint(name, con)?;
+        Ok(None)
+    }
+
+    /// Adds a constraint under the next number.
+    fn add_constraint(&mut self, name: Name, con: Con) -> Result<(), NoMemory>
+        requires kept { IsChecker B.keeps self.old }
+        requires text { IsNameText name }
+        requires fresh { HasConstraint self.old.listed.book name → ⊥ }
+        requires formed { IsWellFormed (length self.old.listed.book.variables) con }
+        requires room { MOST_CONSTRAINTS ≤ length self.old.listed.book.constraints → ⊥ }
+        ensures ok { OnOk result (draft_of B.draft self.new ≡ B.own.listed (draft_of B.draft self.old) (with_listed self.old.listed.book name con)) }
+        ensures kept { OnOk result (IsChecker B.keeps self.new) }
+    {
+        self.listed.list(name, con)?;
+        self.body.listed();
+        Ok(())
+    }
+
+    /// The verdict where no line is left, and a next one would have this number.
+    pub fn ending(self, line: u64) -> B::Verdict
+        ensures { result ≡ B.own.ending (draft_of B.draft self) line }
+    {
+        let Checker { listed, body, .. } = self;
+        body.ending(listed.book, line)
+    }
+}

@@ -1,0 +1,15 @@
+//! The checker of texts that list variables and constraints and have phrases of their own, whatever these are. It takes them
+//! line by line, over what they list; it knows no log, no agenda, no engine and no search.
+#![tactic(auto)]
+
+mod body;
+mod checker;
+mod numbers;
+mod statements;
+mod steps;
+mod verdict;
+
+pub use body::Body;
+pub use numbers::{read_reasons, read_value};
+pub use steps::{check_step, check_wiped};
+pub use verdict::check_text;

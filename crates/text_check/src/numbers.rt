@@ -1,0 +1,97 @@
+//! Reading values and numbers of steps, as phrases have them.
+ghost use Rattle.std.specs.Prelude.{◌≡◌, true, false, IfNone, IfSome, option_map};
+ghost use Rattle.palm_base.specs.Numbers.{AreDigits, digits_number};
+ghost use Rattle.palm_claim.specs.Reader.{is_step_number, is_value, next_number, reasons_at, value_at};
+ghost use Rattle.palm_read.specs.Linear.{signed};
+ghost use Rattle.palm_read.specs.Reader.Held.{Gives};
+ghost use Rattle.palm_read.specs.Reader.Lists.{many_at};
+
+use palm_base::{Value, read_int};
+use palm_claim::StepList;
+use palm_model::GREATEST_VALUE;
+use palm_read::{Cursor, LineError};
+use std::alloc::Global;
+
+/// Reads `from` and numbers of steps, if `from` stands in front.
+#[tactic(auto, unfolding(palm_claim::specs::Reader::reasons_at, palm_claim::specs::Reader::numbers_at, palm_read::specs::Reader::Steps::and_then, palm_read::specs::Reader::Steps::when, palm_read::specs::Reader::Steps::choose))]
+pub fn read_reasons(cursor: &mut Cursor<'_>, alloc: Global) -> Result<StepList, LineError>
+    ensures { Gives (λ numbers. numbers) result cursor.new (reasons_at cursor.old) }
+{
+    if !cursor.takes_word(b"from") {
+        return Ok(StepList::new(alloc));
+    }
+    let numbers = numbers(cursor, alloc)?;
+    if numbers.len() == 0 {
+        return Err(LineError::Form);
+    }
+    Ok(numbers)
+}
+
+/// Reads numbers of steps, as long as digits stand in front.
+fn numbers(cursor: &mut Cursor<'_>, alloc: Global) -> Result<StepList, LineError>
+    ensures { Gives (λ numbers. numbers) result cursor.new (many_at next_number cursor.old) }
+{
+    let mut numbers = StepList::new(alloc);
+    while let Some(number) = next_number(cursor)? {
+        numbers.push(number)?;
+    }
+    Ok(numbers)
+}
+
+/// Reads the number of a step, if digits stand in front.
+#[tactic(auto, unfolding(palm_claim::specs::Reader::next_number, palm_read::specs::Reader::Steps::when, palm_read::specs::Reader::Steps::choose))]
+fn next_number(cursor: &mut Cursor<'_>) -> Result<Option<u32>, LineError>
+    ensures { Gives (option_map (λ number. number)) result cursor.new (next_number cursor.old) }
+{
+    let Some(digits) = cursor.digits() else {
+        return Ok(None);
+    };
+    match step_number(digits) {
+        Some(number) => Ok(Some(number)),
+        None => Err(LineError::Form),
+    }
+}
+
+/// The number of the digits, where a step may have it.
+fn step_number(digits: &[u8]) -> Option<u32>
+    requires { AreDigits digits.now }
+    ensures some { IfSome result (λ number. number ≡ digits_number digits.now) }
+    ensures fits { IfSome result (λ number. is_step_number number ≡ true) }
+    ensures none { IfNone result (is_step_number (digits_number digits.now) ≡ false) }
+{
+    let number = read_int(digits)?;
+    match u32::try_from(number) {
+        Ok(number) if number >= 1 => Some(number),
+        _ => None,
+    }
+}
+
+/// Reads a value of the language.
+#[tactic(auto, unfolding(palm_claim::specs::Reader::value_at, palm_read::specs::Reader::Steps::integer_at, palm_read::specs::Reader::Steps::natural_at, palm_read::specs::Reader::Steps::and_then, palm_read::specs::Reader::Steps::when, palm_read::specs::Reader::Steps::choose))]
+pub fn read_value(cursor: &mut Cursor<'_>) -> Result<Value, LineError>
+    ensures { Gives (λ value. value) result cursor.new (value_at cursor.old) }
+{
+    let is_negative = cursor.takes_sign(b"-");
+    let Some(digits) = cursor.digits() else {
+        return Err(LineError::Form);
+    };
+    match value_of(is_negative, digits) {
+        Some(value) => Ok(value),
+        None => Err(LineError::Form),
+    }
+}
+
+/// The value of the digits, or below 0 with a sign, where the language has it.
+fn value_of(is_negative: bool, digits: &[u8]) -> Option<Value>
+    requires { AreDigits digits.now }
+    ensures some { IfSome result (λ value. value ≡ signed is_negative (digits_number digits.now)) }
+    ensures fits { IfSome result (λ value. is_value value ≡ true) }
+    ensures none { IfNone result (is_value (signed is_negative (digits_number digits.now)) ≡ false) }
+{
+    let number = read_int(digits)?;
+    if number > GREATEST_VALUE as i128 {
+        return None;
+    }
+    let size = number as i32;
+    Some(Value(if is_negative { -size } else { size }))
+}
