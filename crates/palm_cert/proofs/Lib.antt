@@ -3,6 +3,7 @@ pub mod cited
 pub mod Cites
 pub mod Counting
 pub mod Declaring
+pub mod Made
 pub mod Moving
 pub mod Proving
 pub mod Renumbering

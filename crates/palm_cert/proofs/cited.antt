@@ -6,7 +6,6 @@ pub mod Earlier
 pub mod Lengths
 pub mod Links
 pub mod Logged
-pub mod Made
 pub mod Marked
 pub mod Needed
 pub mod Numbers

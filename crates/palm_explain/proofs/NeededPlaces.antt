@@ -25,9 +25,6 @@ use Rattle.palm_explain.proofs.Graphs.{antecedent_first, antecedent_key, link_sa
 
 -- ---- notes
 
-pub noted_none : (g : Graph) (old : List PlaceWord) (More : ℕ → Type 0) → ((k : ℕ) → More k → ⊥) → HasNoted g old old More
-noted_none g old More never = record { stay = λ p h. h; more = λ k m. absurd (never k m); only = λ p h. inl h }
-
 -- one more removal is noted
 pub noted_next : (g : Graph) (old middle new : List PlaceWord) (First More : ℕ → Type 0) (k : ℕ) (l : Link) → g k ≡ Some l → ((j : ℕ) → First j → More j) → More k → ((j : ℕ) → More j → First j ⊎ (k ≡ j))
     → HasNoted g old middle First → HasPlace new l.place → ((p : ℕ) → HasPlace middle p → HasPlace new p) → ((p : ℕ) → HasPlace new p → HasPlace middle p ⊎ (l.place ≡ p)) → HasNoted g old new More
@@ -289,9 +286,6 @@ module _ (log : List Removal) (x : ℕ) (values : List ℤ) where
       named_needed cid n.removal n.names n.logged (is_claimed n.removal.pair (member_same (pairs_with x values) (record { var = x; value = some.value }) n.removal.pair (sym n.is) claimed))
 
 -- one more of the removals is looked at
-pub makers_none : (log : List Removal) → AreMakers log [] []
-makers_none log = record { rising = tt; sound = λ c m. absurd (member_nil c m); whole = λ place r m at. absurd (member_nil place m) }
-
 pub makers_more : (log : List Removal) (places : List ℕ) (i place : ℕ) (r : Removal) (by : Cid) (cids more : List Cid) → i < length places → place ≡ get_or places i place → slice_get log place ≡ Some r → r.by ≡ by
     → AreMakers log (take i places) cids → IsMerged cids (by ∷ []) more → AreMakers log (take (i + 1) places) more
 makers_more log places i place r by cids more lt at there made are merged = record {

@@ -3,7 +3,7 @@ use Rattle.std.proofs.Common.{◌≡◌, ◌≢◌, ℕ, suc, ◌+◌, ◌-◌, 
 use Rattle.std.specs.Int.{bit_at}
 use Rattle.std.specs.List.Sorted.{IsPartitionedBy}
 use Rattle.std.proofs.Math.Nat.{two-pow-succ}
-use Rattle.std.proofs.lemmas.Bool.{cases_eq, cases_lt, ltb-true, ltb-false, leb-true, leb-false, lt-ltb, le-ltb, le-leb}
+use Rattle.std.proofs.lemmas.Bool.{cases_eq, cases_lt, ltb-true, ltb-false, leb-true, lt-ltb, le-ltb, le-leb}
 use Rattle.std.proofs.lemmas.List.{get_or_default}
 use Rattle.std.proofs.lemmas.List.Edits.{length-insert, get_or-insert_below, get_or-insert_at, get_or-insert_above}
 use Rattle.std.proofs.lemmas.Nat.Bits.{bit_at_or, bit_at_above, bit_at-pow_same, bit_at-pow_other, bit_at-zero}
@@ -262,21 +262,6 @@ module _ (words : List PlaceWord) (formed : ArePlaceWords words) (at place bits 
 -- ---- the last place below an end
 
 module _ (words : List PlaceWord) (formed : ArePlaceWords words) (end : ℕ) where
-  pub searched_from : (index : ℕ) → IsPartedAt (λ w. nat_le end w.start) words index → IsSearched words end index
-  searched_from index parted = record {
-    none = λ k d l lt p is below. let from = leb-true end (get_or words k d).start (parted.before k d (omega arith) l) in let starts = is.starts in omega (arith, from, starts, below);
-    ahead = λ k d ge lt. leb-false end (get_or words k d).start (parted.after k d ge lt);
-  }
-
-  pub searched_more : (index : ℕ) (w : PlaceWord) → index < length words → w ≡ get_or words index w → IsSearched words end index → ((p : ℕ) → IsIn w p → p < end → ⊥) → IsSearched words end (index + 1)
-  searched_more index w lt at before none = record {
-    none = λ k d l within p is below. elim (cases_eq k index) [
-      | inl e ↦ none p (subst (λ (v : PlaceWord). IsIn v p) (ap (λ j. get_or words j d) e ∙ get_or_default words index d w lt ∙ sym at) is) below
-      | inr apart ↦ before.none k d (omega (arith, l, apart)) within p is below
-    ];
-    ahead = λ k d ge within. before.ahead k d (omega (arith, ge)) within;
-  }
-
   pub last_found : (index place : ℕ) (w : PlaceWord) → index < length words → w ≡ get_or words index w → IsSearched words end index → IsLastIn w end place → IsLastBelow words end place
   last_found index place w lt at before last = record {
     has = (w, (index, lt, sym at), last.is);
@@ -296,6 +281,3 @@ module _ (words : List PlaceWord) (formed : ArePlaceWords words) (end : ℕ) whe
       ]
     ];
   }
-
-  pub none_found : (index : ℕ) → length words ≤ index → IsSearched words end index → (p : ℕ) → HasPlace words p → p < end → ⊥
-  none_found index all before p h below = let w = h.0 in let m = h.1 in let is = h.2 in before.none m.0 w (omega (arith, m.1, all)) m.1 p (subst (λ (u : PlaceWord). IsIn u p) (sym m.2) is) below

@@ -80,10 +80,6 @@ pub take_some : {X : Type 0} (xs : List X) (i : ℕ) (x : X) → slice_get xs i 
 take_some {X} xs i x at =
     ap (λ (y : X). take i xs ++ y ∷ []) (sym (get_or_from_slice_get xs i x x at)) ∙ sym (take_more xs i x (slice_get_within xs i x at))
 
--- a member that is read by its place
-pub index_read : {X : Type 0} (xs : List X) (k : ℕ) (x d : X) → k < length xs → x ≡ get_or xs k d → slice_get xs k ≡ Some x
-index_read xs k x d lt e = slice_get-get_or xs k d lt ∙ ap Some (sym e)
-
 -- a mark that is read
 pub mark_read : (marks : List Bool) (k : ℕ) (d b : Bool) → k < length marks → get_or marks k d ≡ b → slice_get marks k ≡ Some b
 mark_read marks k d b lt e = slice_get-get_or marks k d lt ∙ ap Some e
@@ -115,11 +111,3 @@ marked_member (true ∷ marks) (y ∷ xs) x m = elim (member_cases y (marked mar
   | inr r ↦ let q = marked_member marks xs x r in (suc q.0, q.1, q.2)
 ]
 marked_member (false ∷ marks) (y ∷ xs) x m = let q = marked_member marks xs x m in (suc q.0, q.1, q.2)
-
-pub member_marked : {X : Type 0} (marks : List Bool) (xs : List X) (k : ℕ) (x : X) → slice_get marks k ≡ Some true → slice_get xs k ≡ Some x → Contains (marked marks xs) x
-member_marked {X} marks xs k x mark at =
-    subst (λ (ys : List X). Contains ys x) (sym (marked_split marks xs k))
-    (Contains-append_right (marked (take k marks) xs) (marked (drop k marks) (drop k xs)) x
-    (subst (λ (ys : List X). Contains ys x) (sym (marked_split (drop k marks) (drop k xs) 1))
-    (Contains-append_left (marked_at marks xs k) (marked (drop 1 (drop k marks)) (drop 1 (drop k xs))) x
-    (subst (λ (ys : List X). Contains ys x) (sym (marked_true marks xs k x mark at)) (member_here x [])))))

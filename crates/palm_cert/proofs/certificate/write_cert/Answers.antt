@@ -8,7 +8,7 @@ use Rattle.palm_cert.specs.Certificate.{certificate_text, claim_line, claimed, d
 use Rattle.palm_cert.specs.Needs.{IsOfBook, marked, removals_at}
 use Rattle.palm_cert.proofs.cited.Accepted.{certificate_accepted}
 use Rattle.palm_cert.proofs.cited.Logged.{claim_declared, log_of_book}
-use Rattle.palm_cert.proofs.cited.Made.{at_ok, in_turn, text_made}
+use Rattle.palm_cert.proofs.Made.{at_ok, in_turn, text_made}
 use Rattle.palm_cert.proofs.cited.Readable.{readable}
 use Rattle.palm_lang.proofs.cited.Writes.{writes_front, writes_text, writes_then, writes_within}
 use Rattle.palm_cert.proofs.certificate.write_cert.Goals as goal
