@@ -16,7 +16,7 @@ use Rattle.palm_hub.specs.Hub.{Admits, HubAnswers, Opened, opened}
 use Rattle.palm_hub.specs.Hub.HubAnswers.{comments, nameless}
 use Rattle.palm_hub.specs.Hub.Outcome.{Refused}
 use Rattle.palm_hub.specs.Standing.{AreIdle, IsAtLine, IsBegun, IsInLine, KeepsPart, MayFollow, Member, Stands, opened_of, sessions_of}
-use Rattle.palm_hub.specs.Stepping.{Admitted, IsAdmission, IsDecided, IsEnough, IsPlaced, IsQuiet, Refuses}
+use Rattle.palm_hub.specs.Stepping.{Admitted, IsAdmission, IsRouted, IsEnough, IsPlaced, IsQuiet, Refuses}
 use Rattle.palm_hub.specs.declared.part.Part.{Part}
 use Rattle.palm_hub.specs.declared.part.Part.TheVariants.{Head, Blanks, Skipped, Session}
 use Rattle.palm_hub.specs.declared.refusal.Refusal.{Refusal}
@@ -261,12 +261,12 @@ not_admitted before after (Skipped (Some refusal)) name line admission other hub
 not_admitted before after (Session place) name line admission other hub more bytes addresses start = absurd (other place refl)
 
 -- it is told where it goes
-pub admission_decided : {G O : Type 0} (before after : List (Member G O)) (part : Part) (name : List ℕ)
-    → IsAdmission before name part after → IsDecided part
-admission_decided before after Head name admission = admission
-admission_decided before after Blanks name admission = tt
-admission_decided before after (Skipped refusal) name admission = tt
-admission_decided before after (Session place) name admission = tt
+pub admission_routed : {G O : Type 0} (before after : List (Member G O)) (part : Part) (name : List ℕ)
+    → IsAdmission before name part after → IsRouted part
+admission_routed before after Head name admission = admission
+admission_routed before after Blanks name admission = tt
+admission_routed before after (Skipped refusal) name admission = tt
+admission_routed before after (Session place) name admission = tt
 
 -- a session that it goes to goes on
 pub admission_placed : {G O : Type 0} (before after : List (Member G O)) (part : Part) (name : List ℕ)

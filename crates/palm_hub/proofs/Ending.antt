@@ -187,31 +187,31 @@ stopped_behind_nothing stop hub line was mid now nothing a = record {
 }
 
 -- the bytes of a line without a carriage return that waits
-module _ {G O : Type 0} (before settled : HubView G O)
-    (settles : (hub : List Opened) (content : List ℕ) → StandsIn hub content before → StandsAtEnd hub content settled)
+module _ {G O : Type 0} (before routed : HubView G O)
+    (routes : (hub : List Opened) (content : List ℕ) → StandsIn hub content before → StandsAtEnd hub content routed)
     (hub : List Opened) (seen : List ℕ) (unbroken : HasNoFeed seen) (behind : StandsBehind hub seen before)
     (was mid now : Option (List ℕ)) (nothing : Appended was mid []) where
   content_unbroken : HasNoFeed behind.content
   content_unbroken = subst HasNoFeed behind.holds.shown (unbroken_without_return seen unbroken)
 
-  content_settled : StandsAtEnd hub behind.content settled
-  content_settled = settles hub behind.content behind.stands
+  content_routed : StandsAtEnd hub behind.content routed
+  content_routed = routes hub behind.content behind.stands
 
   -- the line was answered
   pub line_ends : (after : HubView G O) →
-      ((h : List Opened) (content : List ℕ) → HasNoFeed content → StandsAtEnd h content settled → Ended h content mid now after)
+      ((h : List Opened) (content : List ℕ) → HasNoFeed content → StandsAtEnd h content routed → Ended h content mid now after)
       → Ended hub (without_return seen) was now after
   line_ends after answers =
       ended_behind hub (without_return seen) was mid now after nothing
       (subst (λ (z : List ℕ). Ended hub z mid now after) (sym behind.holds.shown)
-      (answers hub behind.content content_unbroken content_settled))
+      (answers hub behind.content content_unbroken content_routed))
 
   -- the line was answered until a stop
   pub line_stops : (stop : Stop) →
-      ((h : List Opened) (content : List ℕ) → HasNoFeed content → StandsAtEnd h content settled
+      ((h : List Opened) (content : List ℕ) → HasNoFeed content → StandsAtEnd h content routed
       → AnswersOneUntil stop h content mid now)
       → AnswersOneUntil stop hub (without_return seen) was now
   line_stops stop answers =
       stopped_behind_nothing stop hub (without_return seen) was mid now nothing
       (subst (λ (z : List ℕ). AnswersOneUntil stop hub z mid now) (sym behind.holds.shown)
-      (answers hub behind.content content_unbroken content_settled))
+      (answers hub behind.content content_unbroken content_routed))

@@ -81,9 +81,9 @@ IsEnough true head = MOST_HEAD_BYTES ≤ length head
 IsEnough false head = ⊤
 
 -- it is told where the line goes
-abbrev pub IsDecided : Part → Type 0
-IsDecided Head = ⊥
-IsDecided _ = ⊤
+abbrev pub IsRouted : Part → Type 0
+IsRouted Head = ⊥
+IsRouted _ = ⊤
 
 -- where the hub stands in a line behind these bytes of it
 abbrev pub StandsIn : {G O : Type 0} → List Opened → List ℕ → HubView G O → Type 0

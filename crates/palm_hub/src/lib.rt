@@ -2,7 +2,6 @@
 #![tactic(auto)]
 
 mod addressee;
-mod deciding;
 mod host;
 mod laws;
 mod limits;
@@ -10,6 +9,7 @@ mod part;
 mod passing;
 mod prefix;
 mod refusal;
+mod routing;
 mod serving;
 mod sessions;
 mod standing;

@@ -6,13 +6,13 @@ ghost use Rattle.palm_lang.specs.declared.stop.WriteStop.TheVariants as stops;
 ghost use Rattle.palm_read.specs.Lines.{HasNoFeed, without_return};
 ghost use Rattle.palm_hub.specs.Hub.{Opened as OpenedTerm, output_of};
 ghost use Rattle.palm_hub.specs.Standing.{AnswersLast, AnswersLastUntil, AnswersLines, AnswersUntil, StandsBehind, skipped};
-ghost use Rattle.palm_hub.specs.Stepping.{AnswersOne, AnswersOneUntil, IsAtStart, IsDecided, IsQuiet, StandsAtEnd, StandsIn, TakesIn};
+ghost use Rattle.palm_hub.specs.Stepping.{AnswersOne, AnswersOneUntil, IsAtStart, IsQuiet, IsRouted, StandsAtEnd, StandsIn, TakesIn};
 ghost use Rattle.palm_hub.specs.declared.part.Part.TheVariants as parts;
 
-use crate::deciding::{behind_blanks, decide};
 use crate::limits::MOST_HEAD_BYTES;
 use crate::part::Part;
 use crate::refusal::Refusal;
+use crate::routing::{behind_blanks, route};
 use crate::sessions::Opened;
 use palm_base::{NoMemory, Sink, Steps};
 use palm_lang::write_text;
@@ -167,11 +167,11 @@ impl Hub {
     {
         match self.part {
             Part::Head => self.take_head(alloc, bytes, sink, steps),
-            _ => self.take_decided(bytes, sink, steps),
+            _ => self.take_routed(bytes, sink, steps),
         }
     }
 
-    /// Takes bytes of a line of which it is not told yet where it goes, and keeps the first ones until it is. Nothing is
+    /// Takes bytes of a line that is not routed yet, and keeps the first ones until it is. Nothing is
     /// written.
     fn take_head<K: Sink, L: Ledger>(
         &mut self,
@@ -191,19 +191,19 @@ impl Hub {
         if self.head.len() < MOST_HEAD_BYTES {
             return Ok(());
         }
-        self.part = decide(alloc, &mut self.sessions, &self.head, sink, steps)?;
-        self.take_decided(&bytes[used..], sink, steps)
+        self.part = route(alloc, &mut self.sessions, &self.head, sink, steps)?;
+        self.take_routed(&bytes[used..], sink, steps)
     }
 
-    /// Takes bytes of a line of which it is told where it goes. Nothing is written.
-    fn take_decided<K: Sink, L: Ledger>(
+    /// Takes bytes of a line that is routed. Nothing is written.
+    fn take_routed<K: Sink, L: Ledger>(
         &mut self,
         bytes: &[u8],
         sink: &mut K,
         steps: &mut Steps<L>,
     ) -> Result<(), Stop>
         requires unbroken { HasNoFeed bytes.now }
-        requires decided { IsDecided self.old.part }
+        requires routed { IsRouted self.old.part }
         ensures quiet { IsQuiet (K.state sink.old) (K.state sink.new) result }
         ensures takes { OnOk result (TakesIn self.old bytes.now self.new) }
         ensures held { self.new.held ≡ self.old.held }
@@ -236,12 +236,12 @@ impl Hub {
             → (stop ≡ stops.NoMemory → Rose (K.state sink.old).faults (K.state sink.new).faults → ⊥)
             → AnswersOneUntil stop sessions (without_return seen) (K.state sink.old).written (K.state sink.new).written) }
     {
-        self.settle(alloc, sink, steps)?;
+        self.route_rest(alloc, sink, steps)?;
         self.answer(sink, steps)
     }
 
-    /// Decides where a line goes that ends behind its first bytes, if that is not told yet. Nothing is written.
-    fn settle<K: Sink, L: Ledger>(
+    /// Routes a line that ends behind its first bytes, if it is not routed yet. Nothing is written.
+    fn route_rest<K: Sink, L: Ledger>(
         &mut self,
         alloc: Global,
         sink: &mut K,
@@ -250,17 +250,17 @@ impl Hub {
         ensures quiet { IsQuiet (K.state sink.old) (K.state sink.new) result }
         ensures stands { OnOk result ((hub : List OpenedTerm) (content : List ℕ) → StandsIn hub content self.old
             → StandsAtEnd hub content self.new) }
-        ensures decided { OnOk result (IsDecided self.new.part) }
+        ensures routed { OnOk result (IsRouted self.new.part) }
     {
         if let Part::Head = self.part {
-            self.part = decide(alloc, &mut self.sessions, &self.head, sink, steps)?;
+            self.part = route(alloc, &mut self.sessions, &self.head, sink, steps)?;
         }
         Ok(())
     }
 
-    /// Answers a line of which it is told where it goes, and begins the next one.
+    /// Answers a line that is routed, and begins the next one.
     fn answer<K: Sink, L: Ledger>(&mut self, sink: &mut K, steps: &mut Steps<L>) -> Result<(), Stop>
-        requires decided { IsDecided self.old.part }
+        requires routed { IsRouted self.old.part }
         ensures counted { IsCounted (K.state sink.old).faults (K.state sink.new).faults result }
         ensures answers { OnOk result ((hub : List OpenedTerm) (content : List ℕ) → HasNoFeed content
             → StandsAtEnd hub content self.old

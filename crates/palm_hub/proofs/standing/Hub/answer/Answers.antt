@@ -3,7 +3,7 @@ use Rattle.std.proofs.lemmas.Result.{IfErr-weaker, on_ok_weaker}
 use Rattle.palm_agenda.specs.declared.order.LastOrder.{LastOrder}
 use Rattle.palm_guide.specs.declared.stock.FirstGuide.{FirstGuide}
 use Rattle.palm_hub.specs.Standing.{HubView, Stands}
-use Rattle.palm_hub.specs.Stepping.{IsDecided, StandsAtEnd}
+use Rattle.palm_hub.specs.Stepping.{IsRouted, StandsAtEnd}
 use Rattle.palm_hub.specs.declared.part.Part.{Part}
 use Rattle.palm_hub.proofs.Ending.{ends_blank, ends_passed, ends_skipped, kept_at, line_unbroken, stops_passed, stops_skipped}
 use Rattle.palm_hub.proofs.standing.Hub.answer.Given as given
@@ -45,10 +45,10 @@ returns-in-Session-clause-stopped g c =
 pub returns-in-Head-clause-answers : goal.returns-in-Head-clause-answers
 returns-in-Head-clause-answers g c =
     let inside = c.self.inside in
-    let decided = subst (λ (v : HubView FirstGuide LastOrder). IsDecided v.part) (sym c.self.view_is) c.requires.decided in
+    let routed = subst (λ (v : HubView FirstGuide LastOrder). IsRouted v.part) (sym c.self.view_is) c.requires.routed in
     λ hub content unbroken stands.
     elim c.in-Head.is [
-      | inl head ↦ absurd (subst IsDecided (sym c.replace-part.ensures.value ∙ head) decided)
+      | inl head ↦ absurd (subst IsRouted (sym c.replace-part.ensures.value ∙ head) routed)
       | inr blanks ↦
           let there = subst (λ (v : HubView FirstGuide LastOrder). StandsAtEnd hub content v) (sym c.self.view_is) stands in
           let blank =

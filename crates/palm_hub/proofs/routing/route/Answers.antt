@@ -1,5 +1,5 @@
 use Rattle.palm_hub.proofs.Beginning.{head_for_nobody, head_nameless}
-use Rattle.palm_hub.proofs.deciding.decide.Goals as goal
+use Rattle.palm_hub.proofs.routing.route.Goals as goal
 
 pub returns-in-Nobody-clause-stands : goal.returns-in-Nobody-clause-stands
 returns-in-Nobody-clause-stands g c = λ hub more enough start. head_for_nobody hub c.args.sessions.now.items more c.args.head.now enough start c.in-Nobody.ensures

@@ -1,8 +1,8 @@
 use Rattle.std.proofs.Common.{subst}
 use Rattle.palm_hub.specs.Stepping.{IsAdmission}
 use Rattle.palm_hub.specs.declared.part.Part.{Part}
-use Rattle.palm_hub.proofs.Beginning.{admission_decided, admission_placed, line_begun, not_admitted, quiet_ok}
-use Rattle.palm_hub.proofs.deciding.begin.Goals as goal
+use Rattle.palm_hub.proofs.Beginning.{admission_routed, admission_placed, line_begun, not_admitted, quiet_ok}
+use Rattle.palm_hub.proofs.routing.begin.Goals as goal
 
 pub returns-in_ok-take_part-clause-stands : goal.returns-in_ok-take_part-clause-stands
 returns-in_ok-take_part-clause-stands g c = λ hub more bytes addresses start.
@@ -23,6 +23,6 @@ returns-in_default g c =
     record {
       quiet = quiet_ok _ part;
       stands = not_admitted before after part name c.args.line.now c.in_ok-part.ensures c.in_default.not-Session;
-      decided = admission_decided before after part name c.in_ok-part.ensures;
+      routed = admission_routed before after part name c.in_ok-part.ensures;
       placed = admission_placed before after part name c.in_ok-part.ensures;
     }

@@ -5,7 +5,7 @@ use Rattle.palm_hub.specs.Standing.{HubView, Stands}
 use Rattle.palm_hub.specs.Stepping.{StandsIn}
 use Rattle.palm_hub.specs.declared.part.Part.{Part}
 use Rattle.palm_hub.proofs.Taking.{line_longer}
-use Rattle.palm_hub.proofs.standing.Hub.take_decided.Goals as goal
+use Rattle.palm_hub.proofs.standing.Hub.take_routed.Goals as goal
 
 pub returns-in_ok-take_part-in-Session-clause-takes : goal.returns-in_ok-take_part-in-Session-clause-takes
 returns-in_ok-take_part-in-Session-clause-takes g c = λ hub content stands.

@@ -7,7 +7,7 @@ ghost use Rattle.palm_read.specs.Lines.{HasNoFeed};
 ghost use Rattle.palm_hub.specs.Addressing.{Addresses};
 ghost use Rattle.palm_hub.specs.Hub.{Opened as OpenedTerm};
 ghost use Rattle.palm_hub.specs.Standing.{IsAtLine, Member, Stands};
-ghost use Rattle.palm_hub.specs.Stepping.{IsDecided, IsEnough, IsPlaced, IsQuiet};
+ghost use Rattle.palm_hub.specs.Stepping.{IsRouted, IsEnough, IsPlaced, IsQuiet};
 
 use crate::addressee::{Addressee, addressee_of};
 use crate::part::Part;
@@ -18,8 +18,8 @@ use palm_session::Stop;
 use std::alloc::Global;
 use std::sync::ledger::Ledger;
 
-/// Decides where a line with these first bytes goes, and passes those behind a name on. Nothing is written.
-pub(crate) fn decide<K: Sink, L: Ledger>(
+/// Routes a line with these first bytes: tells where it goes, and passes those behind a name on. Nothing is written.
+pub(crate) fn route<K: Sink, L: Ledger>(
     alloc: Global,
     sessions: &mut Vec<Opened>,
     head: &[u8],
@@ -30,7 +30,7 @@ pub(crate) fn decide<K: Sink, L: Ledger>(
     ensures quiet { IsQuiet (K.state sink.old) (K.state sink.new) result }
     ensures stands { IfOk result (λ part. (hub : List OpenedTerm) (more : Bool) → IsEnough more head.now
         → IsAtLine hub sessions.old.items → Stands more hub head.now head.now part sessions.new.items) }
-    ensures decided { IfOk result IsDecided }
+    ensures routed { IfOk result IsRouted }
     ensures placed { IfOk result (λ part. IsPlaced part sessions.new.items) }
 {
     match addressee_of(head) {
@@ -57,7 +57,7 @@ fn begin<K: Sink, L: Ledger>(
     ensures quiet { IsQuiet (K.state sink.old) (K.state sink.new) result }
     ensures stands { IfOk result (λ part. (hub : List OpenedTerm) (more : Bool) (bytes : List ℕ) → Addresses bytes name.now line.now
         → IsAtLine hub sessions.old.items → Stands more hub bytes bytes part sessions.new.items) }
-    ensures decided { IfOk result IsDecided }
+    ensures routed { IfOk result IsRouted }
     ensures placed { IfOk result (λ part. IsPlaced part sessions.new.items) }
 {
     let part = admit(alloc, sessions, name)?;
@@ -71,7 +71,7 @@ fn begin<K: Sink, L: Ledger>(
 pub(crate) fn behind_blanks(bytes: &[u8]) -> Part
     ensures stands { (hub : List OpenedTerm) (members : List (Member FirstGuide LastOrder)) (content head : List ℕ) → after_blanks content ≡ []
         → content ≢ [] → IsAtLine hub members → Stands true hub (content ++ bytes.now) head result members }
-    ensures decided { IsDecided result }
+    ensures routed { IsRouted result }
     ensures placed { (members : List (Member FirstGuide LastOrder)) → IsPlaced result members }
 {
     match addressee_of(bytes) {

@@ -1,7 +1,7 @@
 use Rattle.std.proofs.Common.{inl, inr, subst, take}
 use Rattle.palm_hub.specs.Standing.{Points}
 use Rattle.palm_hub.proofs.Beginning.{comment_behind, name_behind, no_name_behind, still_blank}
-use Rattle.palm_hub.proofs.deciding.behind_blanks.Goals as goal
+use Rattle.palm_hub.proofs.routing.behind_blanks.Goals as goal
 
 pub returns-in-Blank-clause-stands : goal.returns-in-Blank-clause-stands
 returns-in-Blank-clause-stands c = λ hub members content head blank some start.
