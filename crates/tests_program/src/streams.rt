@@ -174,7 +174,10 @@ fn each_line_is_answered_before_the_next_read(rt: HostRuntime) -> Result<(), Fai
         no_orders(rt.alloc()),
     );
     assert_eq!(rt; status, Status::Done);
-    assert!(rt; source.waited, "a read came before the replies to the lines so far");
+    assert!(rt;
+        source.waited,
+        "a read came before the replies to the lines so far"
+    );
     assert_eq!(rt; source.reads, 4);
     assert_eq!(rt; written.get(), 29);
     Ok(())

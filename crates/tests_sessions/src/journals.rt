@@ -78,7 +78,12 @@ fn assert_leaves(
     wanted: &Wanted<'_>,
 ) -> Result<(), Stop> {
     let told = ask(alloc, guides_of(alloc, pick)?, &Left { text })?;
-    assert_eq!(rt; told.turns, wanted.turns, "the turns of '{}'", text.escape_ascii());
+    assert_eq!(rt;
+        told.turns,
+        wanted.turns,
+        "the turns of '{}'",
+        text.escape_ascii()
+    );
     assert_eq!(rt;
         told.decided.as_slice(),
         wanted.decided,
