@@ -32,9 +32,11 @@ use Rattle.palm_engine.proofs.cited.Leading.{leads_then}
 use Rattle.palm_engine.proofs.cited.Settled.{settling_filters}
 use Rattle.palm_search.specs.declared.turn.Turn.{Turn}
 use Rattle.palm_search.specs.declared.turn.Turn.TheVariants.{Decide as TurnDecide, Undo as TurnUndo}
+use Rattle.palm_search.specs.declared.machine.Machine.{Machine}
 use Rattle.palm_search.specs.Calls.{SearchView, TakesTurn, search_state}
 use Rattle.palm_search.specs.Following.{Moment, settling_hearings}
 use Rattle.palm_search.specs.Kept.{HasDecisions, HasNone, HasNoneNegated, IsSearching}
+use Rattle.palm_search.specs.Machine.{KeepsOrder}
 use Rattle.palm_search.specs.Search.{HasNoSolution, IsFound, begun, own_cids}
 use Rattle.palm_search.specs.Turning.{IsCutUndoing}
 use Rattle.palm_search.specs.Turning.IsCutUndoing.{cut_before, cut_within}
@@ -275,23 +277,10 @@ pub data HasMade {G : Type 0} (guiding : Moment → Option G → Option G → Ty
   made_cut : (values : List ℤ) → IsFound (present before.state) values → Cuts target before.state old values after.state new → KeepsCounts before after → now ≡ search → guide_new ≡ guide_old
       → HasMade guiding target budget before after search now old new guide_old guide_new
 
-pub made_alike : {G : Type 0} {guiding : Moment → Option G → Option G → Type 0} {target budget : ℕ} {before after then : View} {search now done : SearchView} {old new last : Incumbent} {guide_old guide_new lent : Option G} → then ≡ after → done ≡ now → last ≡ new → lent ≡ guide_new
-    → HasMade guiding target budget before after search now old new guide_old guide_new → HasMade guiding target budget before then search done old last guide_old lent
-made_alike {guiding = guiding} {target = target} {budget = budget} {before = before} {after = after} {search = search} {now = now} {done = done} {old = old} {last = last} {guide_old = guide_old} {lent = lent} e f i h made =
-    subst (λ (v : View). HasMade guiding target budget before v search done old last guide_old lent) (sym e)
-    (subst (λ (v : SearchView). HasMade guiding target budget before after search v old last guide_old lent) (sym f)
-    (subst (λ (v : Incumbent). HasMade guiding target budget before after search now old v guide_old lent) (sym i)
-    (subst (HasMade guiding target budget before after search now old _ guide_old) (sym h) made)))
-
-pub made_checks : {G : Type 0} (guiding : Moment → Option G → Option G → Type 0) (target budget : ℕ) (before after : View) (search now : SearchView) (old new : Incumbent) (guide_old guide_new : Option G) → HasMade guiding target budget before after search now old new guide_old guide_new
-    → after.checks ≡ before.checks
-made_checks guiding target budget before after search now old new guide_old guide_new (made_turn taken same) = taken.counts.checks
-made_checks guiding target budget before after search now old new guide_old guide_new (made_cut values found cuts counts view lent) = counts.checks
-
-pub made_stays : {G : Type 0} (guiding : Moment → Option G → Option G → Type 0) (target budget : ℕ) (before after : View) (search now : SearchView) (old new : Incumbent) (guide_old guide_new : Option G) → HasMade guiding target budget before after search now old new guide_old guide_new
-    → is_some guide_new ≡ is_some guide_old
-made_stays guiding target budget before after search now old new guide_old guide_new (made_turn taken same) = taken.stays
-made_stays guiding target budget before after search now old new guide_old guide_new (made_cut values found cuts counts view lent) = ap is_some lent
+-- a move over a machine, which settles nothing
+pub record HasMadeOn {F G O L : Type 0} (guiding : Moment → Option G → Option G → Type 0) (target budget : ℕ) (m t : Machine F G O L) (old new : Incumbent) : Type 0 where
+  pub made : HasMade guiding target budget m.engine.now t.engine.now m.search.now t.search.now old new m.guide.now t.guide.now
+  pub keeps : KeepsOrder m t
 
 -- it keeps what each move keeps
 made_keeps : {G : Type 0} (guiding : Moment → Option G → Option G → Type 0) (guided ordered : Bool) (target budget : ℕ) (s : EngineState) (before after : View) (search now : SearchView) (old new : Incumbent) (guide_old guide_new : Option G)

@@ -14,4 +14,4 @@ pub use laws::{
     minimizations_leave_the_constraints, minimizations_leave_the_log,
 };
 pub use limits::FIRST_CUT;
-pub use minimizing::minimize;
+pub use minimizing::{minimize, minimize_by};

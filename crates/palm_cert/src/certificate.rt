@@ -2,23 +2,23 @@
 ghost use Rattle.std.specs.Prelude.{◌≡◌, ◌<◌, [], ◌∷◌, length, flat_map, All, Contains, OnOk};
 ghost use Rattle.palm_book.specs.Book.{HasNumber, active_of, initial_of, number_name};
 ghost use Rattle.palm_cert.specs.Accepted.{IsAccepted};
-ghost use Rattle.palm_cert.specs.Certificate.{added_line, certificate_text, claim_line, claim_var, declarations, declared_line, header_line, step_line, step_words, used};
-ghost use Rattle.palm_cert.specs.Needs.{AreSteps, CanClaim, IsOfBook, declared_at, marked, marked_at, removals_at};
+ghost use Rattle.palm_cert.specs.Certificate.{added_line, certificate_text, claim_line, claim_var, declarations, declared_line, step_line, step_words, used};
+ghost use Rattle.palm_cert.specs.Needs.{AreNeeds, AreSteps, CanClaim, IsOfBook, declared_at, marked, marked_at, removals_at};
+ghost use Rattle.palm_explain.specs.Explanations.{IsLinked};
 ghost use Rattle.palm_lang.specs.Reply.{ended};
+ghost use Rattle.palm_lang.specs.Writer.{Wrote};
 ghost use Rattle.palm_lang.specs.Writing.{Writes};
 ghost use Rattle.palm_model.specs.Constraint.{scope};
 ghost use Rattle.palm_read.specs.Words.{spaced};
 
-use crate::lines::{put_added, put_claim, put_header, put_step};
-use crate::needs::{claimed_var, collect_numbers, needs_of, number_of};
+use crate::lines::{put_added, put_claim, put_step};
+use crate::needs::{Needs, claimed_var, collect_numbers, needs_of, number_of};
 use crate::usage::is_used;
 use palm_base::{NoMemory, Pair, Sink, Var};
 use palm_engine::Engine;
 use palm_explain::ExplainStore;
 use palm_filter::Filter;
-use palm_lang::{
-    Book, BookCon, Claim, Fixed, WriteStop as CertStop, write_fixed, write_line, write_var,
-};
+use palm_lang::{Book, BookCon, Claim, Fixed, WriteStop as CertStop, Writer, write_line};
 use std::alloc::Global;
 
 /// Writes a certificate of the claim: the variables and constraints that it needs, the removals that it needs as steps
@@ -44,11 +44,30 @@ pub fn write_cert<F: Filter, K: Sink>(
     let _ = log.removals();
     let needs = needs_of(alloc, book, log, &claim)?;
     let mut buffer = Vec::new(alloc);
-    write_declarations(book, &needs.cited, claimed_var(&claim), out, &mut buffer)?;
+    let mut writer = Writer::new(out, &mut buffer);
+    write_lines(alloc, book, log, &needs, &claim, &mut writer)
+}
+
+/// Writes the lines of a certificate of the claim, by what it needs.
+fn write_lines<K: Sink>(
+    alloc: Global,
+    book: &Book,
+    log: &ExplainStore,
+    needs: &Needs,
+    claim: &Claim,
+    writer: &mut Writer<'_, K>,
+) -> Result<(), CertStop>
+    requires linked { IsLinked log.now.log }
+    requires logged { All (IsOfBook book.now) log.now.log }
+    requires variable { claim_var claim.now < length book.now.variables }
+    requires needs { AreNeeds book.now log.now.log claim.now needs.now }
+    ensures { Wrote K.state writer.old writer.new (certificate_text book.now log.now.log claim.now) result }
+{
+    write_declarations(book, &needs.cited, claimed_var(claim), writer)?;
     let mut numbers = Vec::new(alloc);
-    write_steps(book, log, &needs.steps, &mut numbers, out, &mut buffer)?;
-    write_claim(book, &claim, out, &mut buffer)?;
-    write_fixed(Fixed::End, out, &mut buffer)
+    write_steps(book, log, &needs.steps, &mut numbers, writer)?;
+    write_claim(book, claim, writer)?;
+    writer.word(Fixed::End)
 }
 
 /// Writes the header, the variables and the constraints.
@@ -56,22 +75,14 @@ fn write_declarations<K: Sink>(
     book: &Book,
     cited: &[bool],
     claimed: Var,
-    out: &mut K,
-    buffer: &mut Vec<u8>,
+    writer: &mut Writer<'_, K>,
 ) -> Result<(), CertStop>
     requires { length cited.now ≡ length book.now.constraints }
-    ensures { Writes (K.state out.old) (K.state out.new) (declarations book.now (marked cited.now book.now.constraints) claimed) result }
+    ensures { Wrote K.state writer.old writer.new (declarations book.now (marked cited.now book.now.constraints) claimed) result }
 {
-    write_header(out, buffer)?;
-    write_variables(book, cited, claimed, out, buffer)?;
-    write_constraints(book, cited, out, buffer)
-}
-
-/// Writes the first line.
-fn write_header<K: Sink>(out: &mut K, buffer: &mut Vec<u8>) -> Result<(), CertStop>
-    ensures { Writes (K.state out.old) (K.state out.new) header_line result }
-{
-    write_line!(out, buffer, put_header())
+    writer.text(b"palm-cert 1\n")?;
+    write_variables(book, cited, claimed, writer)?;
+    write_constraints(book, cited, writer)
 }
 
 /// Writes the variables that are used.
@@ -79,14 +90,13 @@ fn write_variables<K: Sink>(
     book: &Book,
     cited: &[bool],
     claimed: Var,
-    out: &mut K,
-    buffer: &mut Vec<u8>,
+    writer: &mut Writer<'_, K>,
 ) -> Result<(), CertStop>
     requires { length cited.now ≡ length book.now.constraints }
-    ensures { Writes (K.state out.old) (K.state out.new) (flat_map (declared_line book.now.variables) (used (marked cited.now book.now.constraints) claimed book.now)) result }
+    ensures { Wrote K.state writer.old writer.new (flat_map (declared_line book.now.variables) (used (marked cited.now book.now.constraints) claimed book.now)) result }
 {
     for index in 0..book.variables() {
-        write_variable(book, cited, claimed, Var(index), out, buffer)?;
+        write_variable(book, cited, claimed, Var(index), writer)?;
     }
     Ok(())
 }
@@ -97,32 +107,29 @@ fn write_variable<K: Sink>(
     cited: &[bool],
     claimed: Var,
     var: Var,
-    out: &mut K,
-    buffer: &mut Vec<u8>,
+    writer: &mut Writer<'_, K>,
 ) -> Result<(), CertStop>
     requires marks { length cited.now ≡ length book.now.constraints }
     requires variable { var < length book.now.variables }
-    ensures { Writes (K.state out.old) (K.state out.new) (declared_at book.now (marked cited.now book.now.constraints) claimed var) result }
+    ensures { Wrote K.state writer.old writer.new (declared_at book.now (marked cited.now book.now.constraints) claimed var) result }
 {
     if !is_used(book, cited, claimed, var) {
         return Ok(());
     }
-    let _ = book.variables();
-    write_var(book, var, out, buffer)
+    writer.variable(book, var)
 }
 
 /// Writes the constraints that are marked.
 fn write_constraints<K: Sink>(
     book: &Book,
     cited: &[bool],
-    out: &mut K,
-    buffer: &mut Vec<u8>,
+    writer: &mut Writer<'_, K>,
 ) -> Result<(), CertStop>
     requires { length cited.now ≡ length book.now.constraints }
-    ensures { Writes (K.state out.old) (K.state out.new) (flat_map (added_line book.now.variables) (marked cited.now book.now.constraints)) result }
+    ensures { Wrote K.state writer.old writer.new (flat_map (added_line book.now.variables) (marked cited.now book.now.constraints)) result }
 {
     for place in 0..book.constraints() {
-        write_constraint(book, cited, place, out, buffer)?;
+        write_constraint(book, cited, place, writer)?;
     }
     Ok(())
 }
@@ -132,31 +139,29 @@ fn write_constraint<K: Sink>(
     book: &Book,
     cited: &[bool],
     place: usize,
-    out: &mut K,
-    buffer: &mut Vec<u8>,
+    writer: &mut Writer<'_, K>,
 ) -> Result<(), CertStop>
     requires marks { length cited.now ≡ length book.now.constraints }
     requires place { place < length book.now.constraints }
-    ensures { Writes (K.state out.old) (K.state out.new) (flat_map (added_line book.now.variables) (marked_at cited.now book.now.constraints place)) result }
+    ensures { Wrote K.state writer.old writer.new (flat_map (added_line book.now.variables) (marked_at cited.now book.now.constraints place)) result }
 {
     let is_cited = cited[place];
     if !is_cited {
         return Ok(());
     }
-    write_added(book, book.constraint(place), out, buffer)
+    write_added(book, book.constraint(place), writer)
 }
 
 /// Writes the `add` line of a constraint.
 pub fn write_added<K: Sink>(
     book: &Book,
     entry: &BookCon,
-    out: &mut K,
-    buffer: &mut Vec<u8>,
+    writer: &mut Writer<'_, K>,
 ) -> Result<(), CertStop>
     requires { All (λ x. x < length book.now.variables) (scope entry.now.con) }
-    ensures { Writes (K.state out.old) (K.state out.new) (added_line book.now.variables entry.now) result }
+    ensures { Wrote K.state writer.old writer.new (added_line book.now.variables entry.now) result }
 {
-    write_line!(out, buffer, put_added(book, entry))
+    write_line!(writer, put_added(book, entry))
 }
 
 /// Writes the steps, the reasons of one after another in the same memory.
@@ -165,15 +170,14 @@ fn write_steps<K: Sink>(
     log: &ExplainStore,
     steps: &[usize],
     numbers: &mut Vec<usize>,
-    out: &mut K,
-    buffer: &mut Vec<u8>,
+    writer: &mut Writer<'_, K>,
 ) -> Result<(), CertStop>
     requires steps { AreSteps log.now.log steps.now }
     requires logged { All (IsOfBook book.now) log.now.log }
-    ensures { Writes (K.state out.old) (K.state out.new) (flat_map (step_line book.now (removals_at log.now.log steps.now)) (removals_at log.now.log steps.now)) result }
+    ensures { Wrote K.state writer.old writer.new (flat_map (step_line book.now (removals_at log.now.log steps.now)) (removals_at log.now.log steps.now)) result }
 {
     for place in steps {
-        write_step(book, log, steps, *place, numbers, out, buffer)?;
+        write_step(book, log, steps, *place, numbers, writer)?;
     }
     Ok(())
 }
@@ -185,44 +189,41 @@ fn write_step<K: Sink>(
     steps: &[usize],
     place: usize,
     numbers: &mut Vec<usize>,
-    out: &mut K,
-    buffer: &mut Vec<u8>,
+    writer: &mut Writer<'_, K>,
 ) -> Result<(), CertStop>
     requires steps { AreSteps log.now.log steps.now }
     requires logged { All (IsOfBook book.now) log.now.log }
     requires step { Contains steps.now place }
-    ensures { Writes (K.state out.old) (K.state out.new) (flat_map (step_line book.now (removals_at log.now.log steps.now)) (removals_at log.now.log (place ∷ []))) result }
+    ensures { Wrote K.state writer.old writer.new (flat_map (step_line book.now (removals_at log.now.log steps.now)) (removals_at log.now.log (place ∷ []))) result }
 {
     collect_numbers(log, steps, place, numbers)?;
     let by = number_of(log.by_at(place));
-    write_removal(book, &log.pair_at(place), by, numbers, out, buffer)
+    write_removal(book, &log.pair_at(place), by, numbers, writer)
 }
 
-/// Writes a removal as a step.
-fn write_removal<K: Sink>(
+/// Writes a removal as a step, by the numbers of the steps that proved its reasons.
+pub fn write_removal<K: Sink>(
     book: &Book,
     pair: &Pair,
     by: u32,
     numbers: &[usize],
-    out: &mut K,
-    buffer: &mut Vec<u8>,
+    writer: &mut Writer<'_, K>,
 ) -> Result<(), CertStop>
     requires variable { pair.now.var < length book.now.variables }
     requires constraint { HasNumber book.now by }
-    ensures { Writes (K.state out.old) (K.state out.new) (ended (spaced (step_words book.now.variables pair.now (number_name book.now.constraints by) numbers.now))) result }
+    ensures { Wrote K.state writer.old writer.new (ended (spaced (step_words book.now.variables pair.now (number_name book.now.constraints by) numbers.now))) result }
 {
-    write_line!(out, buffer, put_step(book, pair, by, numbers))
+    write_line!(writer, put_step(book, pair, by, numbers))
 }
 
 /// Writes the claim and the end.
 fn write_claim<K: Sink>(
     book: &Book,
     claim: &Claim,
-    out: &mut K,
-    buffer: &mut Vec<u8>,
+    writer: &mut Writer<'_, K>,
 ) -> Result<(), CertStop>
     requires { claim_var claim.now < length book.now.variables }
-    ensures { Writes (K.state out.old) (K.state out.new) (claim_line book.now.variables claim.now) result }
+    ensures { Wrote K.state writer.old writer.new (claim_line book.now.variables claim.now) result }
 {
-    write_line!(out, buffer, put_claim(book, claim))
+    write_line!(writer, put_claim(book, claim))
 }

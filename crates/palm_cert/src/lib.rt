@@ -8,13 +8,12 @@ mod lines;
 mod needs;
 mod usage;
 
-pub use certificate::{write_added, write_cert};
+pub use certificate::{write_added, write_cert, write_removal};
 pub use laws::{
     certificates_are_accepted, claims_are_reached, constraints_are_those_of_the_explanation,
     lines_say_what_was_written, numbers_of_variables_do_not_matter,
     steps_are_right_behind_earlier_ones, steps_are_right_by_themselves,
     steps_are_what_the_claim_needs,
 };
-pub use lines::put_step;
 pub use needs::{collect_numbers, number_of};
 pub use palm_lang::WriteStop as CertStop;

@@ -1,7 +1,7 @@
 //! The lines of a certificate at the end of what was written. Want of memory may leave a part of one there.
 ghost use Rattle.std.specs.Prelude.{◌≡◌, ◌<◌, ◌++◌, All, codes, decimal, length, map, OnOk};
 ghost use Rattle.palm_book.specs.Book.{HasNumber, number_name};
-ghost use Rattle.palm_cert.specs.Certificate.{added_line, claim_line, claim_var, from_words, header_line, step_words};
+ghost use Rattle.palm_cert.specs.Certificate.{added_line, claim_line, claim_var, from_words, step_words};
 ghost use Rattle.palm_lang.specs.Reply.{ended};
 ghost use Rattle.palm_model.specs.Constraint.{scope};
 ghost use Rattle.palm_read.specs.Words.{after_spaces, spaced};
@@ -16,14 +16,6 @@ fn put_number(number: usize, out: &mut Vec<u8>) -> Result<(), NoMemory>
     ensures { OnOk result (out.new.items ≡ out.old.items ++ (codes " " ++ decimal number)) }
 {
     put_spaced_int(number as i128, out)?;
-    Ok(())
-}
-
-/// `palm-cert 1`
-pub fn put_header(out: &mut Vec<u8>) -> Result<(), NoMemory>
-    ensures { OnOk result (out.new.items ≡ out.old.items ++ header_line) }
-{
-    put_text("palm-cert 1\n", out)?;
     Ok(())
 }
 

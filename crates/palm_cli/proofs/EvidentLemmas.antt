@@ -30,10 +30,11 @@ use Rattle.proof_text.proofs.cited.Unique.{one_verdict as one_proof_verdict}
 use Rattle.proof_text.specs.Verdict.{IsVerdict as IsProofVerdict}
 use Rattle.proof_text.specs.declared.verdict.ProofVerdict.{ProofVerdict}
 use Rattle.proof_text.specs.declared.verdict.ProofVerdict.TheVariants.{Accepted as AcceptedProof, Refused as RefusedProof}
-use Rattle.palm_cli.specs.Commands.{EndsWith, HasNoFault, IsAll, JudgesSource, RunsAll, Streams}
+use Rattle.palm_pump.specs.Streams.{HasNoFault, IsAll, Streams}
+use Rattle.palm_cli.specs.Commands.{EndsWith, JudgesSource, RunsAll}
 use Rattle.palm_cli.specs.Evident.{HasExplainedClaim, HasUnsolvedUsers, IsAcceptedBy, IsProofReply, IsSo, IsWord, Passes, PassesAs, PassesAtNone, TellsSo}
 use Rattle.palm_cli.specs.Verdicts.{IsTold, proof_line, proof_status, verdict_line, verdict_status}
-use Rattle.palm_cli.specs.declared.limits.TheConstants.{MOST_INPUT_BYTES}
+use Rattle.palm_pump.specs.declared.limits.TheConstants.{MOST_INPUT_BYTES}
 use Rattle.palm_cli.specs.declared.status.Status.{Status}
 use Rattle.palm_cli.specs.declared.status.Status.TheVariants.{Done, Refused, Usage, ReadFault, WriteFault, NoMemory, TooLong}
 use Rattle.palm_cli.specs.declared.words.Evidence.{Evidence}

@@ -3,7 +3,7 @@ use Rattle.std.proofs.Common.{◌≡◌, ℕ, List, subst}
 use Rattle.palm_engine.specs.Following.{OrderFollows}
 use Rattle.palm_search.specs.Following.{GuideFollows}
 use Rattle.palm_session.specs.Objects.{numbered}
-use Rattle.palm_cli.specs.Commands.{Streams}
+use Rattle.palm_pump.specs.Streams.{Streams}
 use Rattle.palm_cli.specs.Led.{RunsLead, handed_in}
 use Rattle.palm_cli.specs.Stock.{AreStockGuides, AreStockOrders, RunsStock, guide_answers, guide_hears, guide_state, order_answers, order_hears, order_state}
 use Rattle.palm_cli.specs.declared.status.Status.{Status}

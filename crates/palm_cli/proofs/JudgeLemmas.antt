@@ -1,106 +1,24 @@
--- What `check` and `proof` keep from one read to the next, and how they end.
-use Rattle.std.proofs.Common.{◌≡◌, ℕ, ◌+◌, ◌<◌, ◌≤◌, ◌⊎◌, List, [], ◌∷◌, ◌++◌, length, take, Ok, Err, refl, sym, ap, ◌∙◌, subst, arith, append-nil, length-append, inl, inr}
-use Rattle.std.proofs.lemmas.List.{length-take}
-use Rattle.palm_base.specs.Streams.{SourceState, SinkState, Consumes, IsAtEnd, Appended, AppendedProperFront, Rose}
-use Rattle.palm_base.proofs.cited.StreamLemmas.{consumes_nothing, consumes_both}
+-- How `check` and `proof` end.
+use Rattle.std.proofs.Common.{◌≡◌, ℕ, ◌+◌, ◌⊎◌, List, [], ◌++◌, length, refl, sym, ap, ◌∙◌, subst, arith, append-nil, length-append, inl, inr}
+use Rattle.palm_base.specs.Streams.{SourceState, SinkState, Appended, AppendedProperFront, Rose}
+use Rattle.palm_base.proofs.cited.StreamLemmas.{consumes_nothing}
 use Rattle.palm_claim.proofs.cited.Unique.{one_verdict}
+use Rattle.palm_pump.proofs.cited.TakenBytes.{told_once}
+use Rattle.palm_pump.specs.Collected.{Keeps}
+use Rattle.palm_pump.specs.Pumping.{Begins, Pumps, StopsInTime}
+use Rattle.palm_pump.specs.Streams.{HasNoFault, Streams, TakesOver}
+use Rattle.palm_pump.specs.Taking.{Progress, Taking}
+use Rattle.palm_pump.specs.declared.ending.PumpEnd.{PumpEnd}
+use Rattle.palm_pump.specs.declared.ending.PumpEnd.TheVariants as ends
 use Rattle.proof_text.proofs.cited.Unique.{one_verdict as one_proof_verdict}
-use Rattle.palm_cli.proofs.Taking.{all_left, rose_after, told_once}
-use Rattle.palm_cli.specs.Judging.{ReadsOn, ReadsUnkept, KeepsPiece, ReadsText, StopsReading, WritesVerdict}
-use Rattle.palm_cli.specs.Commands.{Streams, EndsWith, HasNoFault, IsAll, IsCut, IsInTime, JudgesSource, JudgesAll, TakesJudged, TakesOver}
+use Rattle.palm_cli.specs.Judging.{WritesVerdict}
+use Rattle.palm_cli.specs.Commands.{EndsWith, IsCut, IsInTime, JudgesSource, JudgesAll, TakesJudged, TakesText}
+use Rattle.palm_cli.specs.Numbers.{status_at}
 use Rattle.palm_cli.specs.Verdicts.{IsTold, proof_status, verdict_status}
-use Rattle.palm_cli.specs.declared.limits.TheConstants.{MOST_INPUT_BYTES, PIECE}
 use Rattle.palm_cli.specs.declared.words.Evidence.{Evidence}
 use Rattle.palm_cli.specs.declared.words.Evidence.TheVariants.{Certificate, Proof}
 use Rattle.palm_cli.specs.declared.status.Status.{Status}
 use Rattle.palm_cli.specs.declared.status.Status.TheVariants.{Done, Refused, Usage, ReadFault, WriteFault, NoMemory, TooLong}
-
--- ---- reading
-
--- the text: what was taken without a fault
-pub record Read (before now : SourceState) (text : List ℕ) : Type 0 where
-  pub takes : Consumes before.left now.left text
-  pub in_time : IsInTime text
-  pub calm : now.faults ≡ before.faults
-
-pub read_nothing : (before : SourceState) (text : List ℕ) → text ≡ [] → Read before before text
-read_nothing before text e = subst (Read before before) (sym e) (record { takes = consumes_nothing before.left; in_time = omega arith; calm = refl })
-
-pub read_more : (before mid now : SourceState) (text more : List ℕ) (count : ℕ) → Read before mid text → length text ≤ MOST_INPUT_BYTES → ReadsOn mid now text more count → Read before now more
-read_more before mid now text more count r le p =
-    subst (Read before now) (sym p.kept)
-    (record {
-      takes = consumes_both before.left mid.left now.left text p.piece r.takes p.takes;
-      in_time = omega (arith, length-append text p.piece, le, p.small);
-      calm = p.calm ∙ r.calm;
-    })
-
--- each piece but the last makes the text longer
-pub longer_by : (mid now : SourceState) (text more : List ℕ) (count : ℕ) → ReadsOn mid now text more count → length more ≡ length text + count
-longer_by mid now text more count p = ap length p.kept ∙ length-append text p.piece ∙ ap (λ (n : ℕ). length text + n) (sym p.counted)
-
-no_piece : (piece : List ℕ) → 0 ≡ length piece → piece ≡ []
-no_piece [] e = refl
-no_piece (b ∷ bytes) e = absurd (omega (arith, e))
-
-pub read_end : (before mid now : SourceState) (text more : List ℕ) (count : ℕ) → Read before mid text → length text ≤ MOST_INPUT_BYTES → count ≡ 0 → ReadsOn mid now text more count
-    → ReadsText before now more
-read_end before mid now text more count r le none p =
-    let nothing : p.piece ≡ [] = no_piece p.piece (sym none ∙ p.counted) in
-    let same : more ≡ text = p.kept ∙ ap (λ (z : List ℕ). text ++ z) nothing ∙ append-nil text in
-    let all = all_left before.left mid.left text r.takes (p.at_end none) in (
-      p.calm ∙ r.calm,
-      record {
-        takes = (read_more before mid now text more count r le p).takes;
-        short = subst (λ (z : List ℕ). length z ≤ MOST_INPUT_BYTES) (sym same) le;
-        whole = subst (λ (z : List ℕ). IsAll before.left z) (sym same) all;
-      },
-    )
-
-pub read_stops : (before mid now : SourceState) (text more : List ℕ) (status : Status) → Read before mid text → length text ≤ MOST_INPUT_BYTES → KeepsPiece mid now text more (Err status)
-    → StopsReading before now status
-read_stops before mid now text more ReadFault r le p = (
-  rose_after before.faults mid.faults now.faults r.calm p.0,
-  text,
-  subst (λ (z : List ℕ). Consumes before.left now.left z) (append-nil text) (consumes_both before.left mid.left now.left text [] r.takes p.1),
-  le,
-)
-read_stops before mid now text more NoMemory r le p = (
-  p.calm ∙ r.calm,
-  text ++ p.piece,
-  consumes_both before.left mid.left now.left text p.piece r.takes p.takes,
-  omega (arith, length-append text p.piece, le, p.small),
-)
-read_stops before mid now text more Done r le p = absurd p
-read_stops before mid now text more Refused r le p = absurd p
-read_stops before mid now text more Usage r le p = absurd p
-read_stops before mid now text more WriteFault r le p = absurd p
-read_stops before mid now text more TooLong r le p = absurd p
-
-pub read_over : (before now : SourceState) (text : List ℕ) → Read before now text → MOST_INPUT_BYTES < length text → StopsReading before now TooLong
-read_over before now text r over = (r.calm, text, r.takes, over, r.in_time)
-
-pub want_read : (before : SourceState) → StopsReading before before NoMemory
-want_read before = (refl, [], consumes_nothing before.left, omega arith)
-
--- a piece was read into the front of a buffer, and kept
-pub kept_piece : (before now : SourceState) (was more buffer : List ℕ) (n : ℕ) → n ≤ length buffer → length buffer ≡ PIECE → Consumes before.left now.left (take n buffer)
-    → (n ≡ 0 → IsAtEnd before.left) → now.faults ≡ before.faults → more ≡ was ++ take n buffer → KeepsPiece before now was more (Ok n)
-kept_piece before now was more buffer n fits size takes end calm kept = record {
-  piece = take n buffer;
-  takes = takes;
-  small = omega (arith, length-take n buffer, fits, size);
-  counted = omega (arith, length-take n buffer, fits);
-  at_end = end;
-  kept = kept;
-  calm = calm;
-}
-
--- or not kept
-pub unkept_piece : (before now : SourceState) (buffer : List ℕ) (n : ℕ) → n ≤ length buffer → length buffer ≡ PIECE → Consumes before.left now.left (take n buffer)
-    → now.faults ≡ before.faults → ReadsUnkept before now
-unkept_piece before now buffer n fits size takes calm =
-    record { piece = take n buffer; takes = takes; small = omega (arith, length-take n buffer, fits, size); calm = calm }
 
 -- ---- the line of the verdict
 
@@ -119,42 +37,72 @@ tells_front evidence text line bytes before after status is e rose w = (rose, li
 
 -- ---- the ends of the commands
 
-pub stops : (evidence : Evidence) (before now : Streams) (status : Status) → StopsReading before.source now.source status → now.sink ≡ before.sink → JudgesSource evidence before now status
-stops evidence before now ReadFault r same =
-    (record { read = r.0; write = ap (λ (k : SinkState). k.faults) same }, r.1, record { takes = r.2; unwritten = same }, r.3)
-stops evidence before now NoMemory r same =
-    (record { read = r.0; write = ap (λ (k : SinkState). k.faults) same }, r.1, record { takes = r.2; unwritten = same }, r.3)
-stops evidence before now TooLong r same =
-    (record { read = r.0; write = ap (λ (k : SinkState). k.faults) same }, r.1, record { takes = r.2; unwritten = same }, r.3, r.4)
-stops evidence before now Done r same = absurd r
-stops evidence before now Refused r same = absurd r
-stops evidence before now Usage r same = absurd r
-stops evidence before now WriteFault r same = absurd r
-
 pub judges_nothing : (evidence : Evidence) (before : Streams) → JudgesSource evidence before before NoMemory
-judges_nothing evidence before = stops evidence before before NoMemory (want_read before.source) refl
+judges_nothing evidence before =
+    (record { read = refl; write = refl }, [], record { takes = consumes_nothing before.source.left; unwritten = refl }, omega arith)
 
-told : (evidence : Evidence) (before now : Streams) (text : List ℕ) (status : Status) → ReadsText before.source now.source text → WritesVerdict evidence text before.sink now.sink status
-    → JudgesSource evidence before now status
-told evidence before now text Done t w = (record { read = t.0; write = w.0 }, record { text = text; line = w.1; takes = t.1; is = w.2; written = w.3 })
-told evidence before now text Refused t w = (record { read = t.0; write = w.0 }, record { text = text; line = w.1; takes = t.1; is = w.2; written = w.3 })
-told evidence before now text WriteFault t w =
-    (record { read = t.0; write = w.0 }, record { text = text; line = w.1; told = w.2; takes = t.1; is = w.3; written = w.4 })
-told evidence before now text NoMemory t w = (
-  record { read = t.0; write = ap (λ (k : SinkState). k.faults) w },
-  text,
-  record { takes = t.1.takes; unwritten = w },
-  omega (arith, t.1.short),
-)
-told evidence before now text Usage t w = absurd w
-told evidence before now text ReadFault t w = absurd w
-told evidence before now text TooLong t w = absurd w
+-- nothing is kept yet
+pub begins : (sink : SinkState) (kept : List ℕ) → Begins (Keeps kept) sink kept
+begins sink kept = record { going = (sym (append-nil kept), refl); wanting = refl }
 
--- the bytes that were judged are those that were read
-pub told_of : (evidence : Evidence) (before now : Streams) (text bytes : List ℕ) (status : Status) → bytes ≡ text → ReadsText before.source now.source text
-    → WritesVerdict evidence bytes before.sink now.sink status → JudgesSource evidence before now status
-told_of evidence before now text bytes status same t w =
-    told evidence before now text status t (subst (λ (z : List ℕ). WritesVerdict evidence z before.sink now.sink status) same w)
+-- the last piece came while the text was within the limit
+in_time : {T : Type 0} (takes : Taking T) (before : SinkState) (text : List ℕ) → StopsInTime takes before text → IsInTime text
+in_time takes before text i = omega (arith, ap length i.whole, length-append i.front i.piece, i.small, i.within)
+
+module _ {T : Type 0} (kept : T) (items : T → List ℕ) (first : List ℕ) (evidence : Evidence) (before : Streams) where
+  abbrev Kept : Progress → List ℕ → SinkState → SinkState → T → Type 0
+  Kept progress text b a now = Keeps first progress text b a (items now)
+
+  -- no text came of the source
+  pub stops : (after : Streams) (end : PumpEnd) (status : Status) → status ≡ status_at end → (end ≡ ends.Done → ⊥)
+      → Pumps Kept before after kept end → JudgesSource evidence before after status
+  stops after end status is some pumps = subst (JudgesSource evidence before after) (sym is) (by_end end some pumps)
+    where
+      by_end : (e : PumpEnd) → (e ≡ ends.Done → ⊥) → Pumps Kept before after kept e → JudgesSource evidence before after (status_at e)
+      by_end ends.Done some p = absurd (some refl)
+      by_end ends.ReadFault some (fails, p, short) = (fails, p.text, record { takes = p.taken; unwritten = p.does.1 }, short)
+      by_end ends.WriteFault some (fails, inl p) = absurd p.does
+      by_end ends.WriteFault some (fails, inr p) = absurd p.does
+      by_end ends.NoMemory some (calm, inl p) = (calm, p.text, record { takes = p.taken; unwritten = p.does }, in_time Kept before.sink p.text p.in_time)
+      by_end ends.NoMemory some (calm, inr p) = absurd p.does
+      by_end ends.TooLong some (calm, p, long) =
+          (calm, p.text, record { takes = p.taken; unwritten = p.does.1 }, long, in_time Kept before.sink p.text p.in_time)
+
+  module _ (source : SourceState) (sink after : SinkState) where
+    abbrev read : Streams
+    read = record { source = source; sink = sink }
+
+    abbrev now : Streams
+    now = record { source = source; sink = after }
+
+    -- the line of the verdict on the whole text was written, or a front of it
+    told : (text : List ℕ) (status : Status) → source.faults ≡ before.source.faults → TakesText before.source source text
+        → WritesVerdict evidence text before.sink after status → JudgesSource evidence before now status
+    told text Done calm t w = (record { read = calm; write = w.0 }, record { text = text; line = w.1; takes = t; is = w.2; written = w.3 })
+    told text Refused calm t w = (record { read = calm; write = w.0 }, record { text = text; line = w.1; takes = t; is = w.2; written = w.3 })
+    told text WriteFault calm t w =
+        (record { read = calm; write = w.0 }, record { text = text; line = w.1; told = w.2; takes = t; is = w.3; written = w.4 })
+    told text NoMemory calm t w = (
+      record { read = calm; write = ap (λ (k : SinkState). k.faults) w },
+      text,
+      record { takes = t.takes; unwritten = w },
+      omega (arith, t.short),
+    )
+    told text Usage calm t w = absurd w
+    told text ReadFault calm t w = absurd w
+    told text TooLong calm t w = absurd w
+
+    -- the bytes that were judged are those that were read
+    pub judges : (bytes : List ℕ) (end : PumpEnd) (status : Status) → end ≡ ends.Done → first ≡ [] → bytes ≡ items kept
+        → Pumps Kept before read kept end → WritesVerdict evidence bytes sink after status → JudgesSource evidence before now status
+    judges bytes end status done none same pumps w = by_end (subst (Pumps Kept before read kept) done pumps)
+      where
+        by_end : Pumps Kept before read kept ends.Done → JudgesSource evidence before now status
+        by_end (calm, inr p) = absurd p.does
+        by_end (calm, inl p) =
+            told p.text status calm.read (record { takes = p.taken; short = p.short; whole = p.all })
+            (subst (λ (z : List ℕ). WritesVerdict evidence z before.sink after status) (same ∙ p.does.0 ∙ ap (λ (z : List ℕ). z ++ p.text) none)
+            (subst (λ (k : SinkState). WritesVerdict evidence bytes k after status) p.does.1 w))
 
 -- ---- complete
 

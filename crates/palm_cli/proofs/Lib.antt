@@ -10,6 +10,5 @@ pub mod QueenLines
 pub mod RunLemmas
 pub mod SolveLemmas
 pub mod SummaryLemmas
-pub mod Taking
 pub mod TopLemmas
 pub mod WordLemmas

@@ -17,7 +17,7 @@ use Rattle.palm_session.proofs.cited.LawsOfChanges.{IsWithout}
 use Rattle.palm_session.proofs.cited.LawsOfStates.{fresh_is}
 use Rattle.palm_session.proofs.cited.LawsOfTexts.{has_run, run_keeps}
 use Rattle.palm_cli.proofs.InnerLines.{all_generated}
-use Rattle.palm_cli.proofs.Taking.{rose_after}
+use Rattle.palm_pump.proofs.cited.TakenBytes.{rose_after}
 use Rattle.palm_cli.proofs.SolveLemmas.{all_bare, all_unbroken, all_go_on}
 use Rattle.palm_cli.specs.Commands.{WritesSummary, status_of}
 use Rattle.palm_cli.specs.Generator.{IsSummary, heading, posing_lines, easing_lines, solve_line, generated_lines, generated_text}

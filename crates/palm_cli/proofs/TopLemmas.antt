@@ -4,7 +4,8 @@ use Rattle.palm_cli.proofs.JudgeLemmas.{judges_nothing}
 use Rattle.palm_cli.proofs.RunLemmas.{want_at_once}
 use Rattle.palm_cli.proofs.SummaryLemmas.{wants}
 use Rattle.palm_cli.proofs.WordLemmas.{judge_no_gen, one_evidence, one_size, run_no_gen, run_no_judge}
-use Rattle.palm_cli.specs.Commands.{Streams, Runs, JudgesSource, Generates, Refuses, Obeys, WritesSummary, HasNoFault, IsWhole}
+use Rattle.palm_pump.specs.Streams.{Streams, HasNoFault}
+use Rattle.palm_cli.specs.Commands.{Runs, JudgesSource, Generates, Refuses, Obeys, WritesSummary, IsWhole}
 use Rattle.palm_cli.specs.Words.{Asks, IsFit, IsGen, IsJudge, IsNoCommand, IsRun}
 use Rattle.palm_cli.specs.declared.status.Status.{Status}
 use Rattle.palm_cli.specs.declared.status.Status.TheVariants.{Done, Refused, Usage, ReadFault, WriteFault, NoMemory, TooLong}

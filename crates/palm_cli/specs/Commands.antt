@@ -1,52 +1,31 @@
 -- What the commands do: the bytes that are taken, the bytes that are written, and the cause of each status.
-use Rattle.std.specs.Prelude.{◌≡◌, ℕ, ◌<◌, ◌≤◌, ◌⊎◌, List, [], ◌∷◌, ◌++◌, ◌+◌, length, take, flat_map, codes, All, Option, Some, None, Result, Ok, Err, ⊤}
+use Rattle.std.specs.Prelude.{◌≡◌, ℕ, ◌<◌, ◌≤◌, ◌⊎◌, List, [], ◌∷◌, ◌++◌, ◌+◌, length, flat_map, codes, All, Option, Some, None, Result, Ok, Err, ⊤}
 use Rattle.palm_base.specs.Streams.{SourceState, SinkState, Consumes, Appended, AppendedProperFront, Rose}
 use Rattle.palm_lang.specs.Reply.{ended}
 use Rattle.palm_lang.specs.Writing.{AppendedUntil}
 use Rattle.palm_session.specs.State.{SessionState, fresh}
 use Rattle.palm_read.specs.Lines.{HasNoFeed, without_return}
 use Rattle.palm_session.specs.Replies.{Replies, Ends}
-use Rattle.palm_session.specs.Feeding.{FeedsOn, FeedsPart}
+use Rattle.palm_session.specs.Feeding.{FeedsEnd, FeedsOn, FeedsPart}
 use Rattle.palm_lang.specs.declared.stop.WriteStop.{WriteStop as Stop}
 use Rattle.palm_lang.specs.declared.stop.WriteStop.TheVariants as stops
+use Rattle.palm_pump.specs.Pumping.{Pumps, StopsInTime}
+use Rattle.palm_pump.specs.Streams.{FailsToRead, FailsToWrite, IsAll, IsCalm, Streams, first_bytes}
+use Rattle.palm_pump.specs.Taking.{Progress}
+use Rattle.palm_pump.specs.Taking.Progress.{More, Enough, Whole, Until, WholeUntil}
+use Rattle.palm_pump.specs.declared.ending.PumpEnd.{PumpEnd}
+use Rattle.palm_pump.specs.declared.ending.PumpEnd.TheVariants as ends
+use Rattle.palm_pump.specs.declared.limits.TheConstants.{MOST_INPUT_BYTES, PIECE}
 use Rattle.palm_cli.specs.Generator.{IsSummary}
 use Rattle.palm_cli.specs.Verdicts.{IsTold}
-use Rattle.palm_cli.specs.declared.limits.TheConstants.{MOST_INPUT_BYTES, PIECE}
 use Rattle.palm_cli.specs.declared.words.Evidence.{Evidence}
 use Rattle.palm_cli.specs.declared.words.Request.{Request}
 use Rattle.palm_cli.specs.declared.words.Request.TheVariants.{Run, Judge, Gen}
 use Rattle.palm_cli.specs.declared.status.Status.{Status}
 use Rattle.palm_cli.specs.declared.status.Status.TheVariants.{Done, Refused, Usage, ReadFault, WriteFault, NoMemory, TooLong}
 
--- the source that a command reads and the sink that it writes
-pub record Streams : Type 0 where
-  pub source : SourceState
-  pub sink : SinkState
-
-abbrev pub streams : SourceState → SinkState → Streams
-streams source sink = record { source = source; sink = sink }
-
--- neither count of faults moved
-pub record IsCalm (before after : Streams) : Type 0 where
-  pub read : after.source.faults ≡ before.source.faults
-  pub write : after.sink.faults ≡ before.sink.faults
-
--- a read failed, and no write
-pub record FailsToRead (before after : Streams) : Type 0 where
-  pub read : Rose before.source.faults after.source.faults
-  pub write : after.sink.faults ≡ before.sink.faults
-
--- a write failed, and no read
-pub record FailsToWrite (before after : Streams) : Type 0 where
-  pub read : after.source.faults ≡ before.source.faults
-  pub write : Rose before.sink.faults after.sink.faults
-
 abbrev pub usage_line : List ℕ
 usage_line = ended (codes "usage: palm run, palm check, palm proof or palm gen N")
-
--- the bytes that can be answered of a text
-abbrev pub first_bytes : List ℕ → List ℕ
-first_bytes text = take MOST_INPUT_BYTES text
 
 -- some line of the text, with its line feed, ends the session
 pub record HasEnd (text : List ℕ) : Type 0 where
@@ -57,79 +36,43 @@ pub record HasEnd (text : List ℕ) : Type 0 where
   pub unbroken : All HasNoFeed (before ++ last ∷ [])
   pub ends : Ends (without_return last)
 
--- no read came too late: without the last piece the text has no line that ends the session and is within the limit
-pub record StopsInTime (text : List ℕ) : Type 0 where
-  pub front : List ℕ
-  pub piece : List ℕ
-  pub whole : text ≡ front ++ piece
-  pub small : length piece ≤ PIECE
-  pub within : length front ≤ MOST_INPUT_BYTES
-  pub unended : HasEnd front → ⊥
-
--- the text is all that was left, where it is told
-abbrev pub IsAll : Option (List ℕ) → List ℕ → Type 0
-IsAll None text = ⊤
-IsAll (Some left) text = left ≡ text
+-- what a session with these numbers does with the bytes of a text, by how far it comes in them: it answers the lines that they
+-- complete, or those up to one that ends it, or those until a stop; and at the end all lines, a last one without its line feed
+-- among them
+abbrev pub Answering : List ℕ → List ℕ → Progress → List ℕ → SinkState → SinkState → SessionState → Type 0
+Answering guides orders More text before after state =
+    (rest : List ℕ) × (asked : ℕ) × FeedsOn (fresh guides orders) text before.written after.written rest state asked
+Answering guides orders Enough text before after state =
+    (asked : ℕ) × FeedsEnd (fresh guides orders) text before.written after.written state asked
+Answering guides orders Whole text before after state =
+    (output : List ℕ) × Replies guides orders text output × Appended before.written after.written output
+Answering guides orders (Until stop) text before after state = FeedsPart stop (fresh guides orders) text before.written after.written
+Answering guides orders (WholeUntil stop) text before after state =
+    (output : List ℕ) × Replies guides orders text output × AppendedUntil stop before.written after.written output
 
 -- the whole text was taken and answered: to its end, or to a line among the first bytes that ends the session
 pub record RunsAll (guides orders : List ℕ) (before after : Streams) : Type 0 where
   pub text : List ℕ
   pub output : List ℕ
   pub takes : Consumes before.source.left after.source.left text
-  pub in_time : StopsInTime text
+  pub in_time : StopsInTime (Answering guides orders) before.sink text
   pub reach : ((length text ≤ MOST_INPUT_BYTES) × IsAll before.source.left text) ⊎ HasEnd (first_bytes text)
   pub replies : Replies guides orders text output
   pub written : Appended before.sink.written after.sink.written output
 
--- so many bytes were taken, and the replies to the lines that they complete were written, while support was asked for so
--- often
-pub record RunsLines (guides orders : List ℕ) (before after : Streams) : Type 0 where
-  pub text : List ℕ
-  pub rest : List ℕ
-  pub state : SessionState
-  pub asked : ℕ
-  pub takes : Consumes before.source.left after.source.left text
-  pub short : length text ≤ MOST_INPUT_BYTES
-  pub feeds : FeedsOn (fresh guides orders) text before.sink.written after.sink.written rest state asked
-
--- more bytes were taken than can be answered, and the replies to the lines that the first of them complete were written,
--- while support was asked for so often
-pub record RunsOver (guides orders : List ℕ) (before after : Streams) : Type 0 where
-  pub text : List ℕ
-  pub rest : List ℕ
-  pub state : SessionState
-  pub asked : ℕ
-  pub takes : Consumes before.source.left after.source.left text
-  pub long : MOST_INPUT_BYTES < length text
-  pub in_time : StopsInTime text
-  pub feeds : FeedsOn (fresh guides orders) (first_bytes text) before.sink.written after.sink.written rest state asked
-
--- the source ended within the limit, and the replies to all lines of the text were written until the stop, that to a last
--- line without its line feed among them
-pub record RunsLast (stop : Stop) (guides orders : List ℕ) (before after : Streams) (text : List ℕ) : Type 0 where
-  pub short : length text ≤ MOST_INPUT_BYTES
-  pub all : IsAll before.source.left text
-  pub output : List ℕ
-  pub replies : Replies guides orders text output
-  pub written : AppendedUntil stop before.sink.written after.sink.written output
-
--- the replies to the lines that the first bytes complete of what was taken were written until the stop, or, where the source
--- ended, those to all lines
-pub record RunsPart (stop : Stop) (guides orders : List ℕ) (before after : Streams) : Type 0 where
-  pub text : List ℕ
-  pub takes : Consumes before.source.left after.source.left text
-  pub in_time : StopsInTime text
-  pub part : FeedsPart stop (fresh guides orders) (first_bytes text) before.sink.written after.sink.written ⊎ RunsLast stop guides orders before after text
+-- the lines were answered while the source was read, which ended so
+abbrev pub RunsTo : PumpEnd → List ℕ → List ℕ → Streams → Streams → Type 0
+RunsTo end guides orders before after = (state : SessionState) × Pumps (Answering guides orders) before after state end
 
 -- what `run` does where guides and orders with these numbers were handed in, by the status that it ends with
 abbrev pub Runs : List ℕ → List ℕ → Streams → Streams → Status → Type 0
 Runs guides orders before after Done = IsCalm before after × RunsAll guides orders before after
 Runs guides orders before after Refused = ⊥
 Runs guides orders before after Usage = ⊥
-Runs guides orders before after ReadFault = FailsToRead before after × RunsLines guides orders before after
-Runs guides orders before after WriteFault = FailsToWrite before after × RunsPart stops.WriteFault guides orders before after
-Runs guides orders before after NoMemory = IsCalm before after × RunsPart stops.NoMemory guides orders before after
-Runs guides orders before after TooLong = IsCalm before after × RunsOver guides orders before after
+Runs guides orders before after ReadFault = RunsTo ends.ReadFault guides orders before after
+Runs guides orders before after WriteFault = RunsTo ends.WriteFault guides orders before after
+Runs guides orders before after NoMemory = RunsTo ends.NoMemory guides orders before after
+Runs guides orders before after TooLong = RunsTo ends.TooLong guides orders before after
 
 -- the whole text was taken: to its end, and within the limit
 pub record TakesText (before after : SourceState) (text : List ℕ) : Type 0 where
@@ -213,11 +156,6 @@ status_of (Ok _) = Done
 status_of (Err stops.WriteFault) = WriteFault
 status_of (Err stops.NoMemory) = NoMemory
 
--- neither count of faults rose
-pub record HasNoFault (before after : Streams) : Type 0 where
-  pub read : Rose before.source.faults after.source.faults → ⊥
-  pub write : Rose before.sink.faults after.sink.faults → ⊥
-
 -- a text that can be answered whole
 abbrev pub IsAnswerable : List ℕ → Type 0
 IsAnswerable text = (length text ≤ MOST_INPUT_BYTES) ⊎ HasEnd (first_bytes text)
@@ -256,14 +194,6 @@ pub record TakesJudged (evidence : Evidence) (before after : Streams) (status : 
   pub takes : Consumes before.source.left after.source.left text
   pub short : length text ≤ MOST_INPUT_BYTES
   pub is : IsTold evidence text line status
-
--- a source that tells its bytes gave more than may be
-pub record TakesOver (before after : Streams) : Type 0 where
-  pub left : List ℕ
-  pub text : List ℕ
-  pub tells : before.source.left ≡ Some left
-  pub takes : Consumes before.source.left after.source.left text
-  pub long : MOST_INPUT_BYTES < length text
 
 -- this status, or want of memory
 abbrev pub EndsWith : Status → Status → Type 0

@@ -23,9 +23,10 @@ use Rattle.palm_session.specs.Told.{ClosesWith}
 use Rattle.proof_text.specs.Users.{IsAmong}
 use Rattle.proof_text.specs.Verdict.{IsVerdict as IsProofVerdict}
 use Rattle.proof_text.specs.declared.verdict.ProofVerdict.TheVariants.{Accepted as AcceptedProof}
-use Rattle.palm_cli.specs.Commands.{EndsWith, HasNoFault, JudgesSource, Streams, TakesText}
+use Rattle.palm_pump.specs.Streams.{HasNoFault, Streams}
+use Rattle.palm_cli.specs.Commands.{EndsWith, JudgesSource, TakesText}
 use Rattle.palm_cli.specs.Verdicts.{proof_line, verdict_line}
-use Rattle.palm_cli.specs.declared.limits.TheConstants.{MOST_INPUT_BYTES}
+use Rattle.palm_pump.specs.declared.limits.TheConstants.{MOST_INPUT_BYTES}
 use Rattle.palm_cli.specs.declared.status.Status.{Status}
 use Rattle.palm_cli.specs.declared.status.Status.TheVariants.{Done}
 use Rattle.palm_cli.specs.declared.words.Evidence.{Evidence}

@@ -1,14 +1,12 @@
 -- How the objects that were handed in to `run` are led while the lines are answered, under the numbers that they were handed in by.
-use Rattle.std.specs.Prelude.{ℕ, List, ◌++◌, Option, Some, None, ⊤}
-use Rattle.palm_base.specs.Streams.{SinkState, Consumes, Appended}
+use Rattle.std.specs.Prelude.{ℕ, List, Option, Some, ⊤}
+use Rattle.palm_base.specs.Streams.{Consumes, Appended}
+use Rattle.palm_pump.specs.Streams.{Streams}
 use Rattle.palm_read.specs.Lines.{AreLines}
-use Rattle.palm_session.specs.Feeding.{View}
-use Rattle.palm_session.specs.Led.{Guiding, Ordering, RunLeads, FeedsLead, LastLeads}
+use Rattle.palm_session.specs.Led.{Guiding, Ordering, RunLeads}
 use Rattle.palm_session.specs.Objects.{HeldObjects, all_placed}
 use Rattle.palm_session.specs.Replies.{AreAnswered}
 use Rattle.palm_session.specs.State.{SessionState, fresh}
-use Rattle.palm_session.specs.declared.going.Going.TheVariants.{More, Quit}
-use Rattle.palm_cli.specs.Commands.{Streams}
 use Rattle.palm_cli.specs.declared.status.Status.{Status}
 use Rattle.palm_cli.specs.declared.status.Status.TheVariants.{Done}
 use Rattle.palm_cli.specs.declared.words.Request.{Request}
@@ -46,19 +44,3 @@ RunsLead guiding ordering guides orders objects before after _ = ⊤
 abbrev pub ObeysLead : {G O : Type 0} → Guiding G → Ordering O → List ℕ → List ℕ → HeldObjects G O → Option Request → Streams → Streams → Status → Type 0
 ObeysLead guiding ordering guides orders objects (Some Run) before after status = RunsLead guiding ordering guides orders objects before after status
 ObeysLead guiding ordering guides orders objects _ before after status = ⊤
-
--- ---- the steps of `run`
-
--- feeding a piece led the objects, unless a stop ended the run there
-abbrev pub PieceLeads : {G O : Type 0} → Guiding G → Ordering O → View G O → List ℕ → SinkState → SinkState → View G O → Option Status → Type 0
-PieceLeads guiding ordering session piece before after later None =
-    FeedsLead guiding ordering session.state (session.unfinished ++ piece) before.written after.written session.objects later.state later.objects More
-PieceLeads guiding ordering session piece before after later (Some Done) =
-    FeedsLead guiding ordering session.state (session.unfinished ++ piece) before.written after.written session.objects later.state later.objects Quit
-PieceLeads guiding ordering session piece before after later (Some _) = ⊤
-
--- answering a last line led the objects, unless a stop came
-abbrev pub FinishLeads : {G O : Type 0} → Guiding G → Ordering O → View G O → SinkState → SinkState → Status → Type 0
-FinishLeads {G = G} {O = O} guiding ordering session before after Done =
-    (state : SessionState) × (objects : HeldObjects G O) × LastLeads guiding ordering session.state session.unfinished before.written after.written session.objects state objects
-FinishLeads guiding ordering session before after _ = ⊤

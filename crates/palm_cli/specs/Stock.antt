@@ -9,7 +9,7 @@ use Rattle.palm_guide.specs.Picks.{IsPick, Raises, first_pick, has_fewer, has_mo
 use Rattle.palm_guide.specs.declared.guide.ViewRow.{ViewRow}
 use Rattle.palm_search.specs.Following.{GuideFollows}
 use Rattle.palm_session.specs.Objects.{numbered}
-use Rattle.palm_cli.specs.Commands.{Streams}
+use Rattle.palm_pump.specs.Streams.{Streams}
 use Rattle.palm_cli.specs.Led.{RunsLead, handed_in}
 use Rattle.palm_cli.specs.declared.status.Status.{Status}
 use Rattle.palm_cli.specs.declared.status.Status.TheVariants.{Done}

@@ -2,11 +2,12 @@
 ghost use Rattle.std.specs.Prelude.{ℕ, map, string_bytes, vec_len};
 ghost use Rattle.palm_base.specs.Streams.{Rose};
 ghost use Rattle.palm_engine.specs.Following.{OrderFollows};
+ghost use Rattle.palm_pump.specs.Streams.{HasNoFault, TakesOver, streams};
 ghost use Rattle.palm_search.specs.Following.{GuideFollows};
 ghost use Rattle.palm_session.specs.Objects.{numbered};
 ghost use Rattle.palm_cli.specs.declared.status.Status.{Status as StatusTerm};
 ghost use Rattle.palm_cli.specs.declared.words.Evidence.{Evidence};
-ghost use Rattle.palm_cli.specs.Commands.{EndsWith, IsCut, IsWhole, Generates, HasNoFault, JudgesSource, Obeys, Refuses, Runs, TakesAnswerable, TakesJudged, TakesOver, TakesTooMuch, WritesUsage, streams};
+ghost use Rattle.palm_cli.specs.Commands.{EndsWith, IsCut, IsWhole, Generates, JudgesSource, Obeys, Refuses, Runs, TakesAnswerable, TakesJudged, TakesTooMuch, WritesUsage};
 ghost use Rattle.palm_cli.specs.Led.{ObeysLead, RunsLead, handed_in};
 ghost use Rattle.palm_cli.specs.Words.{IsFit, IsGen, IsJudge, IsNoCommand, IsRun};
 

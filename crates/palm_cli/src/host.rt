@@ -2,7 +2,8 @@
 ghost use Rattle.std.specs.Prelude.{◌≡◌, ℕ, map, string_bytes, drop, IfOk};
 ghost use Rattle.std.specs.Vec.Iter.{into_iter_items};
 ghost use Rattle.palm_session.specs.Objects.{numbered};
-ghost use Rattle.palm_cli.specs.Commands.{Generates, JudgesSource, Refuses, Runs, streams};
+ghost use Rattle.palm_pump.specs.Streams.{streams};
+ghost use Rattle.palm_cli.specs.Commands.{Generates, JudgesSource, Refuses, Runs};
 ghost use Rattle.palm_cli.specs.Host.{LacksMemory, words_told};
 ghost use Rattle.palm_cli.specs.Stock.{RunsStock};
 ghost use Rattle.palm_cli.specs.Words.{IsGen, IsJudge, IsNoCommand, IsRun};

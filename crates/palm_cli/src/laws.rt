@@ -3,17 +3,16 @@ ghost use Rattle.std.specs.Prelude.{◌≡◌, ◌≤◌, ℕ, List, [], ◌++�
 ghost use Rattle.palm_session.specs.EachLine.{EachLine};
 ghost use Rattle.palm_session.specs.Replies.{Replies};
 ghost use Rattle.palm_session.specs.State.{fresh};
-ghost use Rattle.palm_cli.specs.Commands.{JudgesSource, RunsAll, Streams};
+ghost use Rattle.palm_pump.specs.Streams.{Streams};
+ghost use Rattle.palm_cli.specs.Commands.{JudgesSource, RunsAll};
 ghost use Rattle.palm_cli.specs.Evident.{Passes, TellsSo};
 ghost use Rattle.palm_cli.specs.Generator.{IsSummary, generated_text};
-ghost use Rattle.palm_cli.specs.declared.limits.TheConstants.{MOST_INPUT_BYTES, MOST_QUEENS, MOST_SIZE_DIGITS, PIECE, SEARCH_BUDGET};
+ghost use Rattle.palm_cli.specs.declared.limits.TheConstants.{MOST_QUEENS, MOST_SIZE_DIGITS, SEARCH_BUDGET};
 ghost use Rattle.palm_cli.specs.declared.status.Status.TheVariants.{Done};
 ghost use Rattle.palm_cli.specs.declared.words.Evidence.{Evidence};
 
 /// The numbers of the limits.
 pub fn limits_are_these_numbers()
-    ensures input { MOST_INPUT_BYTES ≡ 16777216 }
-    ensures piece { PIECE ≡ 4096 }
     ensures queens { MOST_QUEENS ≡ 16 }
     ensures digits { MOST_SIZE_DIGITS ≡ 3 }
     ensures budget { SEARCH_BUDGET ≡ 20000 }

@@ -20,5 +20,5 @@ pub use laws::{
     a_size_has_one_summary, limits_are_these_numbers, summaries_are_of_replies,
     what_is_accepted_is_so, what_run_writes_is_accepted,
 };
-pub use limits::{MOST_INPUT_BYTES, MOST_QUEENS, MOST_SIZE_DIGITS, PIECE, SEARCH_BUDGET};
+pub use limits::{MOST_QUEENS, MOST_SIZE_DIGITS, SEARCH_BUDGET};
 pub use status::Status;

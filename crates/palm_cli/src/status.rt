@@ -1,4 +1,5 @@
 //! How a command ends.
+use palm_pump::PumpEnd;
 
 /// How a command ends, and the process with it.
 #[derive(Clone, Copy, Debug, PartialEq, Eq)]
@@ -36,6 +37,23 @@ impl Status {
             Status::WriteFault => 4,
             Status::NoMemory => 5,
             Status::TooLong => 6,
+        }
+    }
+}
+
+impl From<PumpEnd> for Status {
+    ghost use Rattle.std.specs.Prelude.{◌≡◌};
+    ghost use Rattle.palm_cli.specs.Numbers.{status_at};
+
+    ghost from_gives = { λ end status. status ≡ status_at end };
+
+    fn from(end: PumpEnd) -> Status {
+        match end {
+            PumpEnd::Done => Status::Done,
+            PumpEnd::ReadFault => Status::ReadFault,
+            PumpEnd::WriteFault => Status::WriteFault,
+            PumpEnd::NoMemory => Status::NoMemory,
+            PumpEnd::TooLong => Status::TooLong,
         }
     }
 }

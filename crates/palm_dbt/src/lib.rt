@@ -4,4 +4,4 @@
 mod solving;
 
 pub use palm_search::SearchEnd as Answer;
-pub use solving::solve;
+pub use solving::{solve, solve_by};

@@ -3,10 +3,10 @@ ghost use Rattle.std.specs.Prelude.{◌≡◌, [], IfOk, OnErr, is_some};
 ghost use Rattle.palm_model.specs.State.{IsValid};
 ghost use Rattle.palm_engine.specs.Following.{OrderAnswers, OrderFollows};
 ghost use Rattle.palm_search.specs.Breaking.{BreaksOff, IsCutOff};
-ghost use Rattle.palm_search.specs.Calls.{search_state};
 ghost use Rattle.palm_search.specs.Following.{GuideFollows, SearchRunBy, SearchesBy};
 ghost use Rattle.palm_search.specs.Kept.{HasDecisions, HasOnlyUsers};
 ghost use Rattle.palm_search.specs.Leaves.{Counts, Leaves, Lent};
+ghost use Rattle.palm_search.specs.Machine.{Begins, GivesBack, HasRunOn, state_of};
 ghost use Rattle.palm_search.specs.Stopping.{BreaksOffBy, GuideStops, IsCutOffBy};
 ghost use Rattle.palm_dbt.specs.Answers.{IsTrueOf};
 
@@ -15,45 +15,69 @@ use palm_base::{NoMemory, Steps};
 use palm_engine::Engine;
 use palm_filter::Filter;
 use palm_guide::Guide;
-use palm_search::{Next, Search, SearchEnd, next_of, undo_latest};
+use palm_search::{Machine, Next, Search, SearchEnd};
 use std::alloc::Global;
 use std::sync::ledger::Ledger;
 
 /// Settles and takes turns until the run ends.
 fn run<F: Filter, G: Guide, O: Order, L: Ledger>(
-    alloc: Global,
-    engine: &mut Engine<F>,
-    search: &mut Search,
-    guide: &mut Option<G>,
-    order: &mut Option<O>,
+    machine: &mut Machine<F, G, O, L>,
     budget: u64,
-    steps: &mut Steps<L>,
 ) -> Result<SearchEnd, NoMemory>
-    requires fresh { search.old ≡ record { decisions = []; journal = [] } }
-    requires users { HasOnlyUsers engine.old.state }
-    ensures ok { IfOk result (λ answer. SearchRunBy (GuideFollows G.answers G.hears G.state) (OrderFollows O.answers O.hears O.state) guide.old guide.new order.old order.new
-        budget engine.old.state search.new.journal answer (search_state engine.new.state search.new)) }
-    ensures err { OnErr result (IsCutOff (is_some guide.old) (is_some order.old) budget engine.old.state search.new.journal engine.new.state) }
-    ensures stopped { OnErr result (IsCutOffBy (GuideFollows G.answers G.hears G.state) (GuideStops G.answers G.hears G.state) (OrderFollows O.answers O.hears O.state) (OrderAnswers O.answers O.state)
-        guide.old guide.new order.old order.new budget engine.old.state search.new.journal engine.new.state) }
-    ensures decisions { HasDecisions (search_state engine.new.state search.new) }
-    ensures counts { Counts engine.old engine.new steps.old steps.new }
-    ensures lent { Lent guide.old guide.new order.old order.new }
-    ensures before { IsValid engine.old.state }
+    requires begins { Begins machine.old }
+    ensures ok { IfOk result (λ answer. SearchRunBy (GuideFollows G.answers G.hears G.state)
+        (OrderFollows O.answers O.hears O.state)
+        machine.old.guide.now machine.new.guide.now machine.old.order.now machine.new.order.now
+        budget machine.old.engine.now.state machine.new.search.now.journal answer (state_of machine.new)) }
+    ensures err { OnErr result (IsCutOff (is_some machine.old.guide.now) (is_some machine.old.order.now)
+        budget machine.old.engine.now.state machine.new.search.now.journal machine.new.engine.now.state) }
+    ensures stopped { OnErr result (IsCutOffBy (GuideFollows G.answers G.hears G.state)
+        (GuideStops G.answers G.hears G.state)
+        (OrderFollows O.answers O.hears O.state) (OrderAnswers O.answers O.state)
+        machine.old.guide.now machine.new.guide.now machine.old.order.now machine.new.order.now
+        budget machine.old.engine.now.state machine.new.search.now.journal machine.new.engine.now.state) }
+    ensures ran { HasRunOn machine.old machine.new }
 {
     // What holds of every engine is known once its store is read.
-    let _store = engine.store();
-    engine.settle(order, None, steps)?;
+    let _store = machine.engine.store();
+    machine.settle()?;
     loop {
-        match next_of(alloc, engine, search, budget)? {
+        match machine.next(budget)? {
             Next::Ended(end) => return Ok(end),
             Next::Decide => {
-                search.decide(engine, guide)?;
+                machine.decide()?;
             }
-            Next::Undo(conflict) => undo_latest(alloc, engine, search, guide, &conflict)?,
+            Next::Undo(conflict) => machine.undo_latest(&conflict)?,
         }
-        engine.settle(order, None, steps)?;
+        machine.settle()?;
     }
+}
+
+/// Searches as [`solve`] does, with what the machine was lent.
+pub fn solve_by<F: Filter, G: Guide, O: Order, L: Ledger>(
+    machine: &mut Machine<F, G, O, L>,
+    budget: u64,
+) -> Result<SearchEnd, NoMemory>
+    requires begins { Begins machine.old }
+    ensures ok { IfOk result (λ answer. SearchesBy (GuideFollows G.answers G.hears G.state)
+        (OrderFollows O.answers O.hears O.state)
+        machine.old.guide.now machine.new.guide.now machine.old.order.now machine.new.order.now
+        budget machine.old.engine.now.state machine.new.search.now.journal answer machine.new.engine.now.state) }
+    ensures holds { IfOk result (IsTrueOf machine.old.engine.now.state budget) }
+    ensures err { OnErr result (BreaksOff (is_some machine.old.guide.now) (is_some machine.old.order.now)
+        budget machine.old.engine.now.state machine.new.search.now.journal machine.new.engine.now.state) }
+    ensures stopped { OnErr result (BreaksOffBy (GuideFollows G.answers G.hears G.state)
+        (GuideStops G.answers G.hears G.state)
+        (OrderFollows O.answers O.hears O.state) (OrderAnswers O.answers O.state)
+        machine.old.guide.now machine.new.guide.now machine.old.order.now machine.new.order.now
+        budget machine.old.engine.now.state machine.new.search.now.journal machine.new.engine.now.state) }
+    ensures gives { GivesBack machine.old machine.new result }
+{
+    let end = run(machine, budget);
+    machine.close();
+    let end = end?;
+    machine.settle()?;
+    Ok(end)
 }
 
 /// Searches for values that satisfy all constraints, within so many turns: it settles, decides, and at a conflict undoes
@@ -84,9 +108,13 @@ pub fn solve<F: Filter, G: Guide, O: Order, L: Ledger>(
     ensures counts { Counts engine.old engine.new steps.old steps.new }
     ensures lent { Lent guide.old guide.new order.old order.new }
 {
-    let end = run(alloc, engine, search, guide, order, budget, steps);
-    search.close(engine);
-    let end = end?;
-    engine.settle(order, None, steps)?;
-    Ok(end)
+    let mut machine = Machine {
+        alloc,
+        engine,
+        search,
+        guide,
+        order,
+        steps,
+    };
+    solve_by(&mut machine, budget)
 }

@@ -1,190 +1,205 @@
 -- The walk from one needed removal to the next: what is noted and visited on the way, and what it has found at the end.
-use Rattle.std.proofs.Common.{◌≡◌, ℕ, ℤ, ◌+◌, ◌-◌, ◌<◌, ◌≤◌, List, [], ◌∷◌, ◌++◌, length, map, reverse, take, get_or, Contains, Some, slice_get, ◌⊎◌, ◌↔◌, inl, inr, refl, sym, ap, ◌∙◌, subst, arith}
+use Rattle.std.proofs.Common.{nat_lt, ◌≡◌, ℕ, ℤ, ◌+◌, ◌-◌, ◌<◌, ◌≤◌, List, [], ◌∷◌, ◌++◌, length, map, reverse, take, get_or, Contains, Some, None, slice_get, ◌⊎◌, ◌↔◌, inl, inr, refl, sym, ap, ◌∙◌, subst, arith}
 use Rattle.std.proofs.lemmas.Bool.{cases_lt}
-use Rattle.std.proofs.lemmas.List.{get_or_append_left, get_or_push, length_push, length-reverse, get_or-reverse, get_or_default, take_all}
-use Rattle.std.proofs.lemmas.List.Elements.{Contains-append_left, Contains-push, Contains-push_cases}
+use Rattle.std.proofs.lemmas.List.{append-nil, append_assoc, get_or_append_left, get_or_push, length_push, length-reverse, get_or-reverse, get_or_default, map-append, take_more}
+use Rattle.std.proofs.lemmas.List.Elements.{Contains-append_cases, Contains-append_left, Contains-append_right, Contains-push, Contains-push_cases}
 use Rattle.std.specs.List.Sorted.{IsPermutation}
 use Rattle.std.proofs.lemmas.List.Sorted.{Contains-permutation, IsPermutation-sym}
-use Rattle.std.proofs.lemmas.Option.{slice_get-get_or, slice_get_within}
+use Rattle.palm_base.specs.Order.{IsPartedAt}
 use Rattle.palm_base.specs.declared.terms.Cid.{Cid}
 use Rattle.palm_base.specs.declared.terms.Pair.{Pair}
-use Rattle.palm_base.proofs.cited.Members.{member_get, member_here, member_map, member_nil, member_place, member_same, member_single, member_take, member_take_more, member_unmap}
-use Rattle.palm_model.specs.Log.{IsListOf, Names, Removal}
+use Rattle.palm_base.proofs.cited.Members.{member_get, member_here, member_map, member_nil, member_place, member_same, member_single, member_unmap}
+use Rattle.palm_model.specs.Log.{IsListOf, Names, NamesOfPair, Removal}
 use Rattle.palm_model.specs.Log.Names.{by_itself, by_reason}
+use Rattle.palm_explain.specs.declared.entry.Entry.{Entry}
 use Rattle.palm_explain.specs.declared.places.PlaceWord.{PlaceWord}
 use Rattle.palm_explain.specs.declared.rows.Row.{Row}
-use Rattle.palm_explain.specs.Explanations.{IsLinked, NamesOfSome}
-use Rattle.palm_explain.specs.Graph.{AreFound, Graph, IsAmongFirst, IsAntecedent, IsGraph, IsKey, IsValueKey, Link, log_of, pair_at, removal_at}
-use Rattle.palm_explain.specs.Needed.{AreMakers, AreNeeded, Climbs, Falls, HasNoted, IsNeeded, IsNeededAt, IsNoted, IsWalked, pairs_with}
+use Rattle.palm_explain.specs.declared.rows.TheConstants.{NO_NUMBER}
+use Rattle.palm_explain.specs.declared.spans.Span.{Span}
+use Rattle.palm_explain.specs.Entries.{AreEntered, log_of, pairs_with, removal_of, row_span, span_pairs, written}
+use Rattle.palm_explain.specs.Explanations.{NamesOfSome}
+use Rattle.palm_explain.specs.Needed.{AreMakers, AreNeeded, Climbs, Falls, HasNoted, IsNeeded, IsNeededAt, IsWalked}
 use Rattle.palm_explain.specs.Needed.IsNeeded.{is_claimed, is_reason}
 use Rattle.palm_explain.specs.Merging.{IsMerged}
 use Rattle.palm_explain.specs.Places.{HasPlace, IsLastBelow}
-use Rattle.palm_explain.specs.Rows.{key_at}
-use Rattle.palm_explain.proofs.Changes.{more_last, more_left}
-use Rattle.palm_explain.proofs.Graphs.{antecedent_first, antecedent_key, link_same, logged_key, map_place, pair_is, place_unmap, removal_is, removal_logged, removal_pair, some_same}
+use Rattle.palm_explain.specs.Rows.{HasNumber, number_at, number_in, rest_in, row_number, span_in}
+use Rattle.palm_explain.proofs.NamedSome.{listed_like}
+use Rattle.palm_explain.proofs.Reasons.{entry_once, entry_places, entry_rises, map_place, parted_entry, place_unmap, some_same, span_value, written_number}
 
 -- ---- notes
 
--- one more removal is noted
-pub noted_next : (g : Graph) (old middle new : List PlaceWord) (First More : ℕ → Type 0) (k : ℕ) (l : Link) → g k ≡ Some l → ((j : ℕ) → First j → More j) → More k → ((j : ℕ) → More j → First j ⊎ (k ≡ j))
-    → HasNoted g old middle First → HasPlace new l.place → ((p : ℕ) → HasPlace middle p → HasPlace new p) → ((p : ℕ) → HasPlace new p → HasPlace middle p ⊎ (l.place ≡ p)) → HasNoted g old new More
-noted_next g old middle new First More k l at left right split noted there stay only = record {
-  stay = λ p h. stay p (noted.stay p h);
-  more = λ j m. elim (split j m) [
-    | inl f ↦ let n = noted.more j f in record { link = n.link; stands = n.stands; has = stay n.link.place n.has }
-    | inr e ↦ record { link = l; stands = ap g (sym e) ∙ at; has = there }
-  ];
-  only = λ p h. elim (only p h) [
-    | inl o ↦ elim (noted.only p o) [ inl was ↦ inl was | inr f ↦ inr (f.0, f.1, left f.0 f.2, f.3, f.4) ]
-    | inr e ↦ inr (k, l, right, at, e)
+-- first these pairs, and then those
+pub noted_both : (rows : List Row) (old middle new : List PlaceWord) (first then : List Pair) → HasNoted rows old middle first → HasNoted rows middle new then → HasNoted rows old new (first ++ then)
+noted_both rows old middle new first then one two = record {
+  stay = λ k h. two.stay k (one.stay k h);
+  more = λ p k m has. elim (Contains-append_cases first then p m) [ inl f ↦ two.stay k (one.more p k f has) | inr t ↦ two.more p k t has ];
+  only = λ k h. elim (two.only k h) [
+    | inl o ↦ elim (one.only k o) [ inl was ↦ inl was | inr f ↦ inr (f.0, Contains-append_left first then f.0 f.1, f.2) ]
+    | inr t ↦ inr (t.0, Contains-append_right first then t.0 t.1, t.2)
   ];
 }
 
--- the same of more removals by name
-pub noted_like : (g : Graph) (old new : List PlaceWord) (First More : ℕ → Type 0) → ((j : ℕ) → First j → More j) → ((j : ℕ) → More j → First j) → HasNoted g old new First → HasNoted g old new More
-noted_like g old new First More left right noted = record {
-  stay = noted.stay;
-  more = λ k m. noted.more k (right k m);
-  only = λ p h. elim (noted.only p h) [ inl was ↦ inl was | inr f ↦ inr (f.0, f.1, left f.0 f.2, f.3, f.4) ];
+number_same : (rows : List Row) (p q : Pair) (j k : ℕ) → p ≡ q → HasNumber rows p j → HasNumber rows q k → j ≡ k
+number_same rows p q j k same one two = some_same j k (sym one.stands ∙ ap (number_at rows) same ∙ two.stands)
+
+-- one pair that is removed
+pub noted_one : (rows : List Row) (old new : List PlaceWord) (p : Pair) (k : ℕ) → HasNumber rows p k → HasPlace new k → ((j : ℕ) → HasPlace old j → HasPlace new j) → ((j : ℕ) → HasPlace new j → HasPlace old j ⊎ (k ≡ j))
+    → HasNoted rows old new (p ∷ [])
+noted_one rows old new p k is there stay only = record {
+  stay = stay;
+  more = λ q j m has. subst (HasPlace new) (number_same rows p q k j (member_single p q m) is has) there;
+  only = λ j h. elim (only j h) [ inl o ↦ inl o | inr e ↦ inr (p, member_here p [], subst (HasNumber rows p) e is) ];
 }
 
--- the removal of one more value, where there is one
-module _ (rows : List Row) (g : Graph) (found : AreFound rows g) (x : ℕ) (values : List ℤ) (i : ℕ) (v : ℤ) (lt : i < length values) (is : v ≡ get_or values i v) (old middle : List PlaceWord)
-    (noted : HasNoted g old middle (IsValueKey g x (take i values))) where
-  left : (j : ℕ) → IsValueKey g x (take i values) j → IsValueKey g x (take (i + 1) values) j
-  left j m = (m.0, more_left values i v m.0 lt is m.1, m.2, m.3)
+-- one that is not
+pub noted_absent : (rows : List Row) (noted : List PlaceWord) (p : Pair) → ((k : ℕ) → HasNumber rows p k → ⊥) → HasNoted rows noted noted (p ∷ [])
+noted_absent rows noted p none = record {
+  stay = λ k h. h;
+  more = λ q k m has. absurd (none k (subst (λ r. HasNumber rows r k) (sym (member_single p q m)) has));
+  only = λ k h. inl h;
+}
 
-  pub value_noted : (new : List PlaceWord) (k : ℕ) (l : Link) → g k ≡ Some l → l.pair ≡ record { var = x; value = v } → HasPlace new l.place → ((p : ℕ) → HasPlace middle p → HasPlace new p)
-      → ((p : ℕ) → HasPlace new p → HasPlace middle p ⊎ (l.place ≡ p)) → HasNoted g old new (IsValueKey g x (take (i + 1) values))
-  value_noted new k l at pair there stay only =
-      noted_next g old middle new (IsValueKey g x (take i values)) (IsValueKey g x (take (i + 1) values)) k l at left
-      (v, more_last values i v v lt is refl, (l, at), pair_is g k l at ∙ pair)
-      (λ j m. elim (member_take_more values i v m.0 lt is m.1) [
-        | inl o ↦ inl (m.0, o, m.2, m.3)
-        | inr e ↦
-            let same : m.2.0.pair ≡ l.pair = sym (pair_is g j m.2.0 m.2.1) ∙ m.3 ∙ ap (λ (w : ℤ). let p : Pair = record { var = x; value = w } in p) (sym e) ∙ sym pair in
-            inr (some_same k j (sym (found k l at) ∙ ap (key_at rows) (sym same) ∙ found j m.2.0 m.2.1))
-      ])
-      noted there stay only
+pub number_none : (rows : List Row) (p : Pair) → number_at rows p ≡ None → (k : ℕ) → HasNumber rows p k → ⊥
+number_none rows p none k has = none_some (sym none ∙ has.stands)
+  where
+    none_some : None ≡ Some k → ⊥
+    none_some e = cc
 
-  pub value_absent : ((k : ℕ) → IsKey g k → pair_at g k ≡ record { var = x; value = v } → ⊥) → HasNoted g old middle (IsValueKey g x (take (i + 1) values))
-  value_absent none =
-      noted_like g old middle (IsValueKey g x (take i values)) (IsValueKey g x (take (i + 1) values)) left
-      (λ j m. elim (member_take_more values i v m.0 lt is m.1) [
-        | inl o ↦ (m.0, o, m.2, m.3)
-        | inr e ↦ absurd (none j m.2 (m.3 ∙ ap (λ (w : ℤ). let p : Pair = record { var = x; value = w } in p) (sym e)))
-      ])
-      noted
+pub number_unset : (rows : List Row) (p : Pair) (j : ℕ) → number_at rows p ≡ Some j → j ≡ NO_NUMBER → (k : ℕ) → HasNumber rows p k → ⊥
+number_unset rows p j is unset k has = has.removed (some_same k j (sym has.stands ∙ is) ∙ unset)
 
--- one more antecedent
-module _ (g : Graph) (key : ℕ) (n : Link) (at : g key ≡ Some n) (old : List PlaceWord) (i : ℕ) where
-  abbrev First : ℕ → ℕ → Type 0
-  First count = IsAmongFirst count (λ l. l.antecedents) g key
+pub pairs_more : (x : ℕ) (values : List ℤ) (i : ℕ) (d : ℤ) → i < length values → pairs_with x (take (i + 1) values) ≡ pairs_with x (take i values) ++ record { var = x; value = get_or values i d } ∷ []
+pairs_more x values i d lt =
+    let f : ℤ → Pair = λ v. record { var = x; value = v } in
+    ap (map f) (take_more values i d lt) ∙ map-append f (take i values) (get_or values i d ∷ [])
 
-  pub antecedent_noted : (middle new : List PlaceWord) (d : ℕ) (l : Link) → i < length n.antecedents → d ≡ get_or n.antecedents i d → g d ≡ Some l → HasNoted g old middle (First i) → HasPlace new l.place
-      → ((p : ℕ) → HasPlace middle p → HasPlace new p) → ((p : ℕ) → HasPlace new p → HasPlace middle p ⊎ (l.place ≡ p)) → HasNoted g old new (First (i + 1))
-  antecedent_noted middle new d l lt is there noted has stay only =
-      noted_next g old middle new (First i) (First (i + 1)) d l there
-      (λ j m. let same = link_same g key m.0 n m.1 at in (n, at, more_left n.antecedents i d j lt is (subst (λ (z : Link). Contains (take i z.antecedents) j) same m.2)))
-      (n, at, more_last n.antecedents i d d lt is refl)
-      (λ j m.
-      let same = link_same g key m.0 n m.1 at in
-      elim (member_take_more n.antecedents i d j lt is (subst (λ (z : Link). Contains (take (i + 1) z.antecedents) j) same m.2)) [ inl o ↦ inl (n, at, o) | inr e ↦ inr e ])
-      noted has stay only
+pub written_more : (rows : List Row) (n : ℕ) (spans : List Span) (i : ℕ) (d : Span) → i < length spans → written rows n (take (i + 1) spans) ≡ written rows n (take i spans) ++ span_pairs rows n (get_or spans i d)
+written_more rows n spans i d lt = ap (written rows n) (take_more spans i d lt) ∙ written_push (take i spans) (get_or spans i d)
+  where
+    written_push : (ss : List Span) (s : Span) → written rows n (ss ++ s ∷ []) ≡ written rows n ss ++ span_pairs rows n s
+    written_push [] s = append-nil (span_pairs rows n s)
+    written_push (t ∷ ss) s = ap (λ ps. span_pairs rows n t ++ ps) (written_push ss s) ∙ sym (append_assoc (span_pairs rows n t) (written rows n ss) (span_pairs rows n s))
 
-  pub antecedents_noted : (noted : List PlaceWord) → length n.antecedents ≤ i → HasNoted g old noted (First i) → HasNoted g old noted (λ c. IsAntecedent g c key)
-  antecedents_noted noted le has =
-      noted_like g old noted (First i) (λ c. IsAntecedent g c key)
-      (λ j m. (m.0, m.1, member_take i m.0.antecedents j m.2))
-      (λ j m. let same = link_same g key n m.0 at m.1 in (m.0, m.1, subst (λ (ds : List ℕ). Contains ds j) (sym (take_all i m.0.antecedents (subst (λ (z : Link). length z.antecedents ≤ i) same le))) m.2))
-      has
+-- of the reasons of a span those are noted that stand before the place
+pub record IsPartNoted (rows : List Row) (r : Row) (n : ℕ) (s : Span) (place : ℕ) (old new : List PlaceWord) : Type 0 where
+  pub done : List ℤ
+  pub split : done ++ rest_in r n s.high place ≡ span_in r n s.low s.high
+  pub noted : HasNoted rows old new (pairs_with s.var done)
+
+module _ (rows : List Row) (r : Row) (n : ℕ) (s : Span) (here : slice_get rows s.var ≡ Some r) (old : List PlaceWord) where
+  pub part_next : (middle new : List PlaceWord) (place next k : ℕ) (v : ℤ) → IsPartNoted rows r n s place old middle → rest_in r n s.high place ≡ v ∷ rest_in r n s.high (next + 1) → number_in r.values.items r.numbers.items v ≡ Some k → n ≤ NO_NUMBER
+      → HasPlace new k → ((j : ℕ) → HasPlace middle j → HasPlace new j) → ((j : ℕ) → HasPlace new j → HasPlace middle j ⊎ (k ≡ j)) → IsPartNoted rows r n s (next + 1) old new
+  part_next middle new place next k v part rest is most there stay only =
+      let f : ℤ → Pair = λ w. record { var = s.var; value = w } in
+      let split = append_assoc part.done (v ∷ []) (rest_in r n s.high (next + 1)) ∙ ap (λ l. part.done ++ l) (sym rest) ∙ part.split in
+      let m = subst (λ l. Contains l v) split (Contains-append_left (part.done ++ v ∷ []) (rest_in r n s.high (next + 1)) v (Contains-push part.done v)) in
+      let value = span_value rows n s v (subst (λ o. Contains (row_span o n s.low s.high) v) (sym here) m) in
+      let stands : number_at rows (f v) ≡ Some k = ap (λ o. row_number o v) here ∙ is in
+      let same : value.number ≡ k = some_same value.number k (sym value.stands ∙ stands) in
+      record {
+        done = part.done ++ v ∷ [];
+        split = split;
+        noted = subst (HasNoted rows old new) (sym (map-append f part.done (v ∷ [])))
+            (noted_both rows old middle new (pairs_with s.var part.done) (f v ∷ []) part.noted
+            (noted_one rows middle new (f v) k (record { stands = stands; removed = λ e. (let lt = value.before in absurd (omega (arith, lt, same, e, most))) }) there stay only));
+      }
 
 -- ---- the walk
 
-module _ (g : Graph) (keys : List ℕ) (linked : IsLinked (log_of g keys)) (graph : IsGraph g keys) (x : ℕ) (values : List ℤ) where
-  -- the removals at one place are one
-  one_at : (j k : ℕ) (l m : Link) → g j ≡ Some l → g k ≡ Some m → l.place ≡ m.place → j ≡ k
-  one_at j k l m at there e = some_same j k (sym (graph.places.logged j l at) ∙ ap (λ i. slice_get keys i) e ∙ graph.places.logged k m there)
+module _ (entries : List Entry) (rows : List Row) (next : ℕ) (are : AreEntered entries rows next) where
+  numbered_entry : (p : Pair) (k : ℕ) → HasNumber rows p k → (e : Entry) × Contains entries e × (e.pair ≡ p) × (e.number ≡ k)
+  numbered_entry p k has = elim (are.only p k has.stands) [ inl none ↦ absurd (has.removed none) | inr e ↦ e ]
 
-  value_needed : (k : ℕ) → IsValueKey g x values k → IsNeeded (log_of g keys) (pairs_with x values) (pair_at g k)
-  value_needed k v = is_claimed (pair_at g k) (member_same (pairs_with x values) (record { var = x; value = v.0 }) (pair_at g k) (sym v.3) (member_map (λ (w : ℤ). let p : Pair = record { var = x; value = w } in p) values v.0 v.1))
+  entry_below : (e : Entry) → Contains entries e → e.number < NO_NUMBER
+  entry_below e m = let lt = are.below e m in let most = are.most in omega (arith, lt, most)
 
-  antecedent_needed : (k c : ℕ) → IsKey g k → IsNeeded (log_of g keys) (pairs_with x values) (pair_at g k) → IsAntecedent g c k → IsNeeded (log_of g keys) (pairs_with x values) (pair_at g c)
-  antecedent_needed k c key needed antecedent =
-      let r = removal_at g k in
-      is_reason r (pair_at g c) (removal_logged g keys k graph.places key) (subst (IsNeeded (log_of g keys) (pairs_with x values)) (sym (removal_pair g k)) needed)
-      (subst (λ (z : Removal). Contains z.reasons (pair_at g c)) (sym (removal_is g k antecedent.0 antecedent.1)) (member_map (pair_at g) antecedent.0.antecedents c antecedent.2))
+  entry_number : (e : Entry) → Contains entries e → HasNumber rows e.pair e.number
+  entry_number e m = record { stands = are.found e m; removed = λ none. (let lt = entry_below e m in absurd (omega (arith, lt, none))) }
 
   -- at the start
-  pub walk_begun : (noted : List PlaceWord) → HasNoted g [] noted (IsValueKey g x values) → IsWalked g keys x values noted (length keys) []
-  walk_begun noted new = record {
-    within = within;
-    sound = λ k n. elim (new.only n.link.place n.has) [
+  pub walk_begun : (pairs : List Pair) (noted : List PlaceWord) → HasNoted rows [] noted pairs → IsWalked entries rows pairs noted NO_NUMBER []
+  walk_begun pairs noted new = record {
+    sound = λ k h. elim (new.only k h) [
       | inl o ↦ absurd (member_nil o.0 o.1)
-      | inr f ↦ subst (λ j. IsNeeded (log_of g keys) (pairs_with x values) (pair_at g j)) (one_at f.0 k f.1 n.link f.3 n.stands f.4) (value_needed f.0 f.2)
+      | inr f ↦ let e = numbered_entry f.0 k f.2 in (e.0, e.1, e.3, is_claimed e.0.pair (member_same pairs f.0 e.0.pair (sym e.2) f.1))
     ];
-    begun = new.more;
-    closed = λ k c l at h ge antecedent. let lt = within l.place h in absurd (omega (arith, lt, ge));
-    listed = λ p. (λ m. absurd (member_nil p m), λ h. let lt = within p h.0 in absurd (omega (arith, lt, h.1)));
+    begun = λ e m claimed. new.more e.pair e.number claimed (entry_number e m);
+    closed = λ e f m n h ge reason. (let lt = entry_below e m in absurd (omega (arith, lt, ge)));
+    listed = λ p. (λ m. absurd (member_nil p m), λ h. (let lt = entry_below h.0 (member_get entries p h.0 h.1) in let ge = h.3 in absurd (omega (arith, lt, ge))));
     falls = λ i j d l lt. absurd (omega (arith, lt));
   }
-    where
-      within : (p : ℕ) → HasPlace noted p → p < length keys
-      within p h = elim (new.only p h) [
-        | inl o ↦ absurd (member_nil o.0 o.1)
-        | inr f ↦ subst (λ q. q < length keys) f.4 (slice_get_within keys f.1.place f.0 (graph.places.logged f.0 f.1 f.3))
-      ]
+
+  -- a number that is noted has its entry at its place
+  pub walk_here : (pairs : List Pair) (noted : List PlaceWord) (end number place : ℕ) (visited : List ℕ) → IsWalked entries rows pairs noted end visited → HasPlace noted number → IsPartedAt (λ f. nat_lt f.number number) entries place
+      → (e : Entry) × (slice_get entries place ≡ Some e) × (e.number ≡ number)
+  walk_here pairs noted end number place visited walked has at =
+      let e = walked.sound number has in
+      (e.0, parted_entry entries are.rises place e.0 e.1 (subst (λ n. IsPartedAt (λ f. nat_lt f.number n) entries place) (sym e.2) at), e.2)
 
   -- past one more removal
-  module _ (noted more : List PlaceWord) (end place key : ℕ) (visited : List ℕ) (walked : IsWalked g keys x values noted end visited) (last : IsLastBelow noted end place)
-      (here : slice_get keys place ≡ Some key) (new : HasNoted g noted more (λ c. IsAntecedent g c key)) where
-    own : (l : Link) × (g key ≡ Some l) × (l.place ≡ place)
-    own = graph.places.placed place key here
+  module _ (pairs : List Pair) (noted more : List PlaceWord) (end number place : ℕ) (e : Entry) (visited : List ℕ) (walked : IsWalked entries rows pairs noted end visited) (last : IsLastBelow noted end number)
+      (here : slice_get entries place ≡ Some e) (is : e.number ≡ number) (new : HasNoted rows noted more (written rows e.number e.spans.items)) where
+    among : Contains entries e
+    among = member_get entries place e here
 
-    -- what is noted anew stands before the place
-    first : (p : ℕ) → HasPlace more p → HasPlace noted p ⊎ (p < place)
-    first p h = elim (new.only p h) [
+    needed : IsNeeded (log_of rows entries) pairs e.pair
+    needed =
+        let f = walked.sound number last.has in
+        subst (λ (g : Entry). IsNeeded (log_of rows entries) pairs g.pair) (entry_once entries are.rises f.0 e f.1 among (f.2 ∙ sym is)) f.3
+
+    -- what is noted anew is less
+    first : (k : ℕ) → HasPlace more k → HasPlace noted k ⊎ (k < number)
+    first k h = elim (new.only k h) [
       | inl o ↦ inl o
       | inr f ↦
-          let lt = antecedent_first g keys f.0 key own.0 f.1 linked graph own.1 f.3 (subst (λ (z : Link). Contains z.antecedents f.0) (some_same f.2.0 own.0 (sym f.2.1 ∙ own.1)) f.2.2) in
-          inr (omega (arith, lt, own.2, f.4))
+          let w = written_number rows e.number e.spans.items f.0 f.1 in
+          let j = w.4 in
+          let same = some_same j.0 k (sym j.1 ∙ f.2.stands) in
+          let lt = j.2 in inr (omega (arith, lt, same, is))
     ]
 
-    was : (p : ℕ) → HasPlace more p → place ≤ p → HasPlace noted p
-    was p h ge = elim (first p h) [ inl o ↦ o | inr lt ↦ absurd (omega (arith, lt, ge)) ]
+    was : (k : ℕ) → HasPlace more k → number ≤ k → HasPlace noted k
+    was k h ge = elim (first k h) [ inl o ↦ o | inr lt ↦ absurd (omega (arith, lt, ge)) ]
 
-    is_place : (p : ℕ) → HasPlace more p → place ≤ p → (end ≤ p) ⊎ (p ≡ place)
-    is_place p h ge = elim (cases_lt p end) [
-      | inl lt ↦ let most = last.last p (was p h ge) lt in inr (omega (arith, ge, most))
+    is_number : (k : ℕ) → HasPlace more k → number ≤ k → (end ≤ k) ⊎ (k ≡ number)
+    is_number k h ge = elim (cases_lt k end) [
+      | inl lt ↦ let most = last.last k (was k h ge) lt in inr (omega (arith, ge, most))
       | inr le ↦ inl le
     ]
 
-    stay_noted : (k : ℕ) → IsNoted g noted k → IsNoted g more k
-    stay_noted k n = record { link = n.link; stands = n.stands; has = new.stay n.link.place n.has }
+    same_place : (p : ℕ) (f : Entry) → slice_get entries p ≡ Some f → f.number ≡ number → place ≡ p
+    same_place p f at same = elim (cases_lt p place) [
+      | inl l ↦ let lt = entry_rises entries are.rises p place f e l at here in absurd (omega (arith, lt, same, is))
+      | inr ge ↦ elim (cases_lt place p) [
+        | inl l ↦ let lt = entry_rises entries are.rises place p e f l here at in absurd (omega (arith, lt, same, is))
+        | inr le ↦ omega (arith, ge, le)
+      ]
+    ]
 
-    key_needed : IsNeeded (log_of g keys) (pairs_with x values) (pair_at g key)
-    key_needed = walked.sound key (record { link = own.0; stands = own.1; has = subst (HasPlace noted) (sym own.2) last.has })
-
-    pub walk_next : IsWalked g keys x values more place (visited ++ place ∷ [])
+    pub walk_next : IsWalked entries rows pairs more number (visited ++ place ∷ [])
     walk_next = record {
-      within = λ p h. elim (first p h) [ inl o ↦ walked.within p o | inr lt ↦ let most = walked.within place last.has in omega (arith, lt, most) ];
-      sound = λ k n. elim (new.only n.link.place n.has) [
-        | inl o ↦ walked.sound k (record { link = n.link; stands = n.stands; has = o })
-        | inr f ↦ subst (λ j. IsNeeded (log_of g keys) (pairs_with x values) (pair_at g j)) (one_at f.0 k f.1 n.link f.3 n.stands f.4) (antecedent_needed key f.0 (own.0, own.1) key_needed f.2)
+      sound = λ k h. elim (new.only k h) [
+        | inl o ↦ walked.sound k o
+        | inr f ↦
+            let g = numbered_entry f.0 k f.2 in
+            let reason = member_same (written rows e.number e.spans.items) f.0 g.0.pair (sym g.2) f.1 in
+            (g.0, g.1, g.3, is_reason (removal_of rows e) g.0.pair (member_map (removal_of rows) entries e among) needed reason)
       ];
-      begun = λ k v. stay_noted k (walked.begun k v);
-      closed = λ k c l at h ge antecedent. elim (is_place l.place h ge) [
-        | inl le ↦ stay_noted c (walked.closed k c l at (was l.place h ge) le antecedent)
-        | inr e ↦ let same = one_at k key l own.0 at own.1 (e ∙ sym own.2) in new.more c (subst (IsAntecedent g c) same antecedent)
+      begun = λ f m claimed. new.stay f.number (walked.begun f m claimed);
+      closed = λ f g m n h ge reason. elim (is_number f.number h ge) [
+        | inl le ↦ new.stay g.number (walked.closed f g m n (was f.number h ge) le reason)
+        | inr same ↦
+            let one = entry_once entries are.rises f e m among (same ∙ sym is) in
+            new.more g.pair g.number (subst (λ (z : Entry). Contains (written rows z.number z.spans.items) g.pair) one reason) (entry_number g n)
       ];
       listed = λ p. (
         λ m. elim (Contains-push_cases visited place p m) [
-          | inl o ↦ let h = (walked.listed p).0 o in (new.stay p h.0, omega (arith, h.1, last.below))
-          | inr e ↦ subst (λ q. HasPlace more q × (place ≤ q)) e (new.stay place last.has, omega arith)
+          | inl o ↦ let h = (walked.listed p).0 o in (h.0, h.1, new.stay h.0.number h.2, (let le = h.3 in let below = last.below in omega (arith, le, below)))
+          | inr same ↦ (e, subst (λ q. slice_get entries q ≡ Some e) same here, new.stay e.number (subst (HasPlace noted) (sym is) last.has), omega (arith, is))
         ],
-        λ h. elim (is_place p h.0 h.1) [
-          | inl le ↦ Contains-append_left visited (place ∷ []) p ((walked.listed p).1 (was p h.0 h.1, le))
-          | inr e ↦ member_same (visited ++ place ∷ []) place p (sym e) (Contains-push visited place)
+        λ h. elim (is_number h.0.number h.2 h.3) [
+          | inl le ↦ Contains-append_left visited (place ∷ []) p ((walked.listed p).1 (h.0, h.1, was h.0.number h.2 h.3, le))
+          | inr same ↦ member_same (visited ++ place ∷ []) place p (same_place p h.0 h.1 same) (Contains-push visited place)
         ],
       );
       falls = λ i j d l lt.
@@ -195,51 +210,43 @@ module _ (g : Graph) (keys : List ℕ) (linked : IsLinked (log_of g keys)) (grap
                 let one = get_or_append_left visited (place ∷ []) d i (omega (arith, l, jl)) in
                 let two = get_or_append_left visited (place ∷ []) d j jl in omega (arith, falls, one, two)
             | inr jg ↦
-                let e : j ≡ length visited = omega (arith, long, lt, jg) in
-                let il : i < length visited = omega (arith, l, e) in
+                let at : j ≡ length visited = omega (arith, long, lt, jg) in
+                let il : i < length visited = omega (arith, l, at) in
                 let one = get_or_append_left visited (place ∷ []) d i il in
-                let two = get_or_push visited place d j (sym e) in
+                let two = get_or_push visited place d j (sym at) in
                 let m : Contains visited (get_or visited i d) = (i, il, get_or_default visited i (get_or visited i d) d il) in
-                let far = ((walked.listed (get_or visited i d)).0 m).1 in
-                let below = last.below in omega (arith, one, two, far, below)
+                let h = (walked.listed (get_or visited i d)).0 m in
+                let far = h.3 in
+                let below = last.below in
+                let lt = entry_places entries are.rises place (get_or visited i d) e h.0 here h.1 (omega (arith, is, far, below)) in omega (arith, one, two, lt)
           ];
     }
 
   -- at the end
-  module _ (noted : List PlaceWord) (end : ℕ) (visited : List ℕ) (walked : IsWalked g keys x values noted end visited) (none : (p : ℕ) → HasPlace noted p → p < end → ⊥) where
-    from_end : (p : ℕ) → HasPlace noted p → end ≤ p
-    from_end p h = elim (cases_lt p end) [ inl lt ↦ absurd (none p h lt) | inr le ↦ le ]
+  module _ (pairs : List Pair) (noted : List PlaceWord) (end : ℕ) (visited : List ℕ) (walked : IsWalked entries rows pairs noted end visited) (none : (k : ℕ) → HasPlace noted k → k < end → ⊥) where
+    from_end : (k : ℕ) → HasPlace noted k → end ≤ k
+    from_end k h = elim (cases_lt k end) [ inl lt ↦ absurd (none k h lt) | inr le ↦ le ]
 
-    needed_noted : (p : Pair) → IsNeeded (log_of g keys) (pairs_with x values) p → (k : ℕ) → IsKey g k → pair_at g k ≡ p → IsNoted g noted k
-    needed_noted _ (is_claimed p m) k key e =
-        let v = member_unmap (λ (w : ℤ). let q : Pair = record { var = x; value = w } in q) values p m in
-        walked.begun k (v.0, v.1, key, e ∙ sym v.2)
-    needed_noted _ (is_reason r p m needed reason) k key e =
-        let j = logged_key g keys r graph.places m in
-        let n = needed_noted r.pair needed j.0 j.1 (sym (removal_pair g j.0) ∙ ap (λ (z : Removal). z.pair) j.2) in
-        let reasons : Contains (map (pair_at g) n.link.antecedents) p = subst (λ (z : Removal). Contains z.reasons p) (sym j.2 ∙ removal_is g j.0 n.link n.stands) reason in
-        let u = member_unmap (pair_at g) n.link.antecedents p reasons in
-        let antecedent : IsAntecedent g u.0 j.0 = (n.link, n.stands, u.1) in
-        let same = graph.apart u.0 k (antecedent_key g keys u.0 j.0 graph antecedent) key (u.2 ∙ sym e) in
-        subst (IsNoted g noted) same (walked.closed j.0 u.0 n.link n.stands n.has (from_end n.link.place n.has) antecedent)
+    needed_noted : (p : Pair) → IsNeeded (log_of rows entries) pairs p → (e : Entry) → Contains entries e → e.pair ≡ p → HasPlace noted e.number
+    needed_noted _ (is_claimed p m) e n same = walked.begun e n (member_same pairs p e.pair (sym same) m)
+    needed_noted _ (is_reason r p m needed reason) e n same =
+        let u = member_unmap (removal_of rows) entries r m in
+        let has = needed_noted r.pair needed u.0 u.1 (ap (λ (z : Removal). z.pair) u.2) in
+        let among : Contains (written rows u.0.number u.0.spans.items) p = subst (λ (z : Removal). Contains z.reasons p) (sym u.2) reason in
+        walked.closed u.0 e u.1 n has (from_end u.0.number has) (member_same (written rows u.0.number u.0.spans.items) p e.pair (sym same) among)
 
-    pub walk_ended : (place : ℕ) → Contains visited place ↔ IsNeededAt (log_of g keys) (pairs_with x values) place
+    pub walk_ended : (place : ℕ) → Contains visited place ↔ IsNeededAt (log_of rows entries) pairs place
     walk_ended place = (
       λ m.
           let h = (walked.listed place).0 m in
-          let k = within_key place (walked.within place h.0) in
-          let l = graph.places.placed place k.0 k.1 in
-          (removal_at g k.0, map_place (removal_at g) keys place k.0 k.1, subst (IsNeeded (log_of g keys) (pairs_with x values)) (sym (removal_pair g k.0)) (walked.sound k.0 (record { link = l.0; stands = l.1; has = subst (HasPlace noted) (sym l.2) h.0 }))),
-      λ r.
-          let k = place_unmap (removal_at g) keys place r.0 r.1 in
-          let l = graph.places.placed place k.0 k.1 in
-          let n = needed_noted r.0.pair r.2 k.0 (l.0, l.1) (sym (removal_pair g k.0) ∙ ap (λ (z : Removal). z.pair) k.2) in
-          let same = ap (λ (z : Link). z.place) (link_same g k.0 n.link l.0 n.stands l.1) ∙ l.2 in
-          let has = subst (HasPlace noted) same n.has in (walked.listed place).1 (has, from_end place has),
+          let f = walked.sound h.0.number h.2 in
+          let same = entry_once entries are.rises f.0 h.0 f.1 (member_get entries place h.0 h.1) f.2 in
+          (removal_of rows h.0, map_place (removal_of rows) entries place h.0 h.1, subst (λ (g : Entry). IsNeeded (log_of rows entries) pairs g.pair) same f.3),
+      λ n.
+          let e = place_unmap (removal_of rows) entries place n.0 n.1 in
+          let has = needed_noted n.0.pair n.2 e.0 (member_get entries place e.0 e.1) (ap (λ (z : Removal). z.pair) e.2) in
+          (walked.listed place).1 (e.0, e.1, has, from_end e.0.number has),
     )
-      where
-        within_key : (p : ℕ) → p < length keys → (k : ℕ) × (slice_get keys p ≡ Some k)
-        within_key p lt = (get_or keys p 0, slice_get-get_or keys p 0 lt)
 
 -- ---- the other way round
 
@@ -286,21 +293,29 @@ module _ (log : List Removal) (x : ℕ) (values : List ℤ) where
       named_needed cid n.removal n.names n.logged (is_claimed n.removal.pair (member_same (pairs_with x values) (record { var = x; value = some.value }) n.removal.pair (sym n.is) claimed))
 
 -- one more of the removals is looked at
-pub makers_more : (log : List Removal) (places : List ℕ) (i place : ℕ) (r : Removal) (by : Cid) (cids more : List Cid) → i < length places → place ≡ get_or places i place → slice_get log place ≡ Some r → r.by ≡ by
-    → AreMakers log (take i places) cids → IsMerged cids (by ∷ []) more → AreMakers log (take (i + 1) places) more
-makers_more log places i place r by cids more lt at there made are merged = record {
+pub makers_more : (log : List Removal) (places : List ℕ) (place : ℕ) (r : Removal) (cids more : List Cid) → slice_get log place ≡ Some r → AreMakers log places cids → IsMerged cids (r.by ∷ []) more → AreMakers log (places ++ place ∷ []) more
+makers_more log places place r cids more there are merged = record {
   rising = merged.rising;
   sound = λ c m. elim (merged.sound c m) [
-    | inl o ↦ let s = are.sound c o in (s.0, s.1, more_left places i place s.0 lt at s.2, s.3, s.4)
-    | inr n ↦ (place, r, more_last places i place place lt at refl, there, made ∙ member_single by c n)
+    | inl o ↦ let s = are.sound c o in (s.0, s.1, Contains-append_left places (place ∷ []) s.0 s.2, s.3, s.4)
+    | inr n ↦ (place, r, Contains-push places place, there, member_single r.by c n)
   ];
-  whole = λ q s m here. elim (member_take_more places i place q lt at m) [
+  whole = λ q s m here. elim (Contains-push_cases places place q m) [
     | inl o ↦ merged.first s.by (are.whole q s o here)
     | inr e ↦
         let same : r ≡ s = some_same r s (sym there ∙ ap (λ k. slice_get log k) e ∙ here) in
-        merged.second s.by (member_same (by ∷ []) by s.by (sym made ∙ ap (λ (z : Removal). z.by) same) (member_here by []))
+        merged.second s.by (member_same (r.by ∷ []) r.by s.by (ap (λ (z : Removal). z.by) same) (member_here r.by []))
   ];
 }
+
+-- the walk has come down to the end, with the constraints of what it passed
+pub record IsWalkedBy (entries : List Entry) (rows : List Row) (pairs : List Pair) (noted : List PlaceWord) (end : ℕ) (cids : List Cid) : Type 0 where
+  pub visited : List ℕ
+  pub walked : IsWalked entries rows pairs noted end visited
+  pub made : AreMakers (log_of rows entries) visited cids
+
+pub makers_none : (log : List Removal) → AreMakers log [] []
+makers_none log = record { rising = tt; sound = λ c m. absurd (member_nil c m); whole = λ p r m here. absurd (member_nil p m) }
 
 -- the makers of what the values need are the constraints of their explanations
 pub makers_explain : (log : List Removal) (x : ℕ) (values : List ℤ) (places : List ℕ) (cids : List Cid) → ((place : ℕ) → Contains places place ↔ IsNeededAt log (pairs_with x values) place) → AreMakers log places cids → IsListOf (NamesOfSome log x values) cids
@@ -316,3 +331,10 @@ makers_explain log x values places cids each are = record {
       let p = member_place log t.0 t.1 in
       subst (λ (z : Cid). Contains cids z) t.3 (are.whole p.0 t.0 ((each p.0).1 (t.0, p.1, t.2)) p.1);
 }
+
+-- one value of a variable is a pair
+pub one_value : (log : List Removal) (p : Pair) (cids : List Cid) → IsListOf (NamesOfSome log p.var (p.value ∷ [])) cids → IsListOf (NamesOfPair log p) cids
+one_value log p cids list =
+    listed_like (NamesOfSome log p.var (p.value ∷ [])) (NamesOfPair log p) cids
+    (λ c some. subst (λ v. NamesOfPair log (record { var = p.var; value = v }) c) (sym (member_single p.value some.value some.among)) some.names)
+    (λ c one. record { value = p.value; among = member_here p.value []; names = one }) list

@@ -3,13 +3,13 @@ use Rattle.std.proofs.Common.{◌≡◌, ◌≢◌, ℕ, suc, ◌+◌, ◌-◌, 
 use Rattle.std.specs.Int.{bit_at}
 use Rattle.std.specs.List.Sorted.{IsPartitionedBy}
 use Rattle.std.proofs.Math.Nat.{two-pow-succ}
-use Rattle.std.proofs.lemmas.Bool.{cases_eq, cases_lt, ltb-true, ltb-false, leb-true, lt-ltb, le-ltb, le-leb}
+use Rattle.std.proofs.lemmas.Bool.{cases_eq, cases_lt, ltb-true, ltb-false, leb-true, lt-ltb, le-ltb, le-leb, lt-leb}
 use Rattle.std.proofs.lemmas.List.{get_or_default}
 use Rattle.std.proofs.lemmas.List.Edits.{length-insert, get_or-insert_below, get_or-insert_at, get_or-insert_above}
 use Rattle.std.proofs.lemmas.Nat.Bits.{bit_at_or, bit_at_above, bit_at-pow_same, bit_at-pow_other, bit_at-zero}
 use Rattle.palm_base.specs.Order.{IsPartedAt}
 use Rattle.palm_explain.specs.declared.places.PlaceWord.{PlaceWord}
-use Rattle.palm_explain.specs.Places.{ArePlaceWords, HasPlace, IsIn, IsLastBelow, IsLastIn, IsSearched, with_bit}
+use Rattle.palm_explain.specs.Places.{ArePlaceWords, BeginsBelow, HasPlace, IsIn, IsLastBelow, IsLastIn, IsSearched, with_bit}
 
 -- ---- the bits of a word
 
@@ -80,6 +80,19 @@ parted_there words formed start near within is = record {
   within = omega (arith, within);
   before = λ k d ge lt. let falls = formed.falls k near d lt within in let at = is d in lt-ltb start (get_or words k d).start (omega (arith, falls, at));
   after = λ k d ge lt. let less = by_start words formed near k d ge lt in let at = is d in le-ltb start (get_or words k d).start (omega (arith, less, at));
+}
+
+-- the first word that begins below the end parts the others
+pub below_parted : (words : List PlaceWord) → ArePlaceWords words → (end index : ℕ) → BeginsBelow words index end → IsPartedAt (λ w. nat_le end w.start) words index
+below_parted words formed end index is = record {
+  within = let lt = is.within in omega (arith, lt);
+  before = λ k d ge lt.
+      let far = is.before d (omega (arith, lt)) in
+      let within = is.within in
+      let more = by_start words formed k (index - 1) d (omega (arith, lt)) (omega (arith, within)) in le-leb end (get_or words k d).start (omega (arith, far, more));
+  after = λ k d ge lt.
+      let near = is.here d in
+      let less = by_start words formed index k d ge lt in lt-leb end (get_or words k d).start (omega (arith, near, less));
 }
 
 -- ---- a place that is added to a word

@@ -1,68 +1,22 @@
--- Pairs that come back, one place after another, and the variables that are noted.
-use Rattle.std.proofs.Common.{◌≡◌, ℕ, zero, suc, ◌+◌, ◌≤◌, Bool, true, not, cond, List, [], ◌∷◌, ◌++◌, length, map, filter, take, drop, slice_get, Contains, Some, ◌⊎◌, inl, inr, refl, sym, ap, ◌∙◌, subst, arith}
-use Rattle.std.proofs.lemmas.List.{map-append, length-map, take_all}
-use Rattle.std.proofs.lemmas.List.Elements.{filter-append, Contains-append_left, Contains-append_right, Contains-append_cases, Contains-push, Contains-push_cases}
-use Rattle.std.proofs.lemmas.List.Filters.{length-filter_both}
+-- Pairs that come back, and numbers that go.
+use Rattle.std.proofs.Common.{◌≡◌, List, [], ◌∷◌, Contains, Some, ◌⊎◌, inl, inr, refl, sym, ◌∙◌, subst}
 use Rattle.palm_base.specs.declared.terms.Pair.{Pair}
-use Rattle.palm_base.proofs.cited.Members.{member_nil, member_here, member_cases, member_same, member_map, member_unmap, filter_member, member_filter, nat_known, int_known}
-use Rattle.palm_domain.specs.Rows.{Row, GainsPair, IsPresent, initial_of}
-use Rattle.palm_model.specs.Event.{vars_of}
+use Rattle.palm_base.proofs.cited.Members.{member_nil, member_here, member_cases, member_same, nat_known, int_known}
+use Rattle.palm_domain.specs.Rows.{Row as DomainRow, GainsPair, IsPresent, initial_of}
 use Rattle.palm_model.proofs.cited.Without.{pair_of}
-use Rattle.palm_explain.specs.declared.restored.Restored.{Restored}
-use Rattle.palm_explain.specs.Explanations.{IsSpanned, restored_vars}
-use Rattle.palm_explain.specs.Graph.{Graph, log_of, removal_at}
-use Rattle.palm_explain.specs.Lost.{HasBack, kept_of, lost_at, lost_of}
-
--- ---- lost pairs
-
-pub lost_append : (g : Graph) (lost : ℕ → Bool) (xs ys : List ℕ) → lost_of g lost (xs ++ ys) ≡ lost_of g lost xs ++ lost_of g lost ys
-lost_append g lost xs ys = ap (λ l. map (λ k. (removal_at g k).pair) l) (filter-append lost xs ys) ∙ map-append (λ k. (removal_at g k).pair) (filter lost xs) (filter lost ys)
-
-pub take_next : {X : Type 0} (i : ℕ) (xs : List X) → take (suc i) xs ≡ take i xs ++ take 1 (drop i xs)
-take_next zero xs = refl
-take_next (suc i) [] = refl
-take_next (suc i) (x ∷ xs) = ap (λ l. x ∷ l) (take_next i xs)
-
-lost_next : (g : Graph) (lost : ℕ → Bool) (es : List ℕ) (i : ℕ) → lost_of g lost (take (i + 1) es) ≡ lost_of g lost (take i es) ++ lost_at g lost es i
-lost_next g lost es i =
-    let e : i + 1 ≡ suc i = omega arith in
-    ap (λ n. lost_of g lost (take n es)) e ∙ ap (lost_of g lost) (take_next i es) ∙ lost_append g lost (take i es) (take 1 (drop i es))
-
--- a lost pair is that of a removal that is lost
-pub lost_entry : (g : Graph) (lost : ℕ → Bool) (es : List ℕ) (p : Pair) → Contains (lost_of g lost es) p → (k : ℕ) × Contains es k × ((removal_at g k).pair ≡ p) × (lost k ≡ true)
-lost_entry g lost es p m =
-    let e = member_unmap (λ k. (removal_at g k).pair) (filter lost es) p m in
-    let k = filter_member lost es e.0 e.1 in
-    (e.0, k.0, e.2, k.1)
-
-pub entry_lost : (g : Graph) (lost : ℕ → Bool) (es : List ℕ) (k : ℕ) → Contains es k → lost k ≡ true → Contains (lost_of g lost es) (removal_at g k).pair
-entry_lost g lost es k m h = member_map (λ j. (removal_at g j).pair) (filter lost es) k (member_filter lost es k m h)
-
-pub entry_logged : (g : Graph) (es : List ℕ) (k : ℕ) → Contains es k → Contains (log_of g es) (removal_at g k)
-entry_logged g es k m = member_map (removal_at g) es k m
-
--- what stays and what is lost are all
-pub kept_and_lost : (g : Graph) (lost : ℕ → Bool) (es : List ℕ) → length (kept_of lost es) + length (lost_of g lost es) ≡ length es
-kept_and_lost g lost es =
-    let a = length-map (filter lost es) (λ k. (removal_at g k).pair) in
-    let b = length-filter_both lost (λ k. not (lost k)) (λ k. refl) es in omega (arith, a, b)
-
-pub taken_one : {X : Type 0} (xs : List X) (i : ℕ) (x : X) → slice_get xs i ≡ Some x → take 1 (drop i xs) ≡ x ∷ []
-taken_one [] i x at = cc
-taken_one (y ∷ xs) zero x at = let f : y ≡ x = cc in ap (λ z. z ∷ []) f
-taken_one (y ∷ xs) (suc i) x at = taken_one xs i x at
-
--- the pair at a place is lost, or none there is
-pub lost_here : (g : Graph) (lost : ℕ → Bool) (es : List ℕ) (i k : ℕ) → slice_get es i ≡ Some k → lost k ≡ true → lost_at g lost es i ≡ (removal_at g k).pair ∷ []
-lost_here g lost es i k at is =
-    ap (lost_of g lost) (taken_one es i k at) ∙ ap (λ b. map (λ j. (removal_at g j).pair) (cond b (k ∷ []) [])) is
+use Rattle.palm_events.proofs.cited.Agreeing.{pair_known}
+use Rattle.palm_explain.specs.declared.rows.Row.{Row}
+use Rattle.palm_explain.specs.declared.rows.TheConstants.{NO_NUMBER}
+use Rattle.palm_explain.specs.Losing.{HasBack, LosesNumbers}
+use Rattle.palm_explain.specs.Restored.{KeepsNumbers}
+use Rattle.palm_explain.specs.Rows.{AreFormedRows, number_at}
 
 -- ---- pairs that are back
 
-pub back_none : (rows : List Row) → HasBack rows rows []
+pub back_none : (rows : List DomainRow) → HasBack rows rows []
 back_none rows = record { initial = refl; sound = λ x v h. inl h; others = λ x v h. h; back = λ p m. absurd (member_nil p m) }
 
-pub back_one : (before after : List Row) (p : Pair) → initial_of after ≡ initial_of before → GainsPair before after p.var p.value → HasBack before after (p ∷ [])
+pub back_one : (before after : List DomainRow) (p : Pair) → initial_of after ≡ initial_of before → GainsPair before after p.var p.value → HasBack before after (p ∷ [])
 back_one before after p same gains = record {
   initial = same;
   sound = λ x v h. elim (nat_known x p.var) [
@@ -79,61 +33,57 @@ back_one before after p same gains = record {
   ];
 }
 
-pub back_then : (before middle after : List Row) (ps qs : List Pair) → HasBack before middle ps → HasBack middle after qs → HasBack before after (ps ++ qs)
-back_then before middle after ps qs one two = record {
+-- these pairs are those and one more
+pub record IsOneMore (ps : List Pair) (p : Pair) (qs : List Pair) : Type 0 where
+  pub some : (q : Pair) → Contains qs q → Contains ps q ⊎ (p ≡ q)
+  pub old : (q : Pair) → Contains ps q → Contains qs q
+  pub there : Contains qs p
+
+pub back_next : (before middle after : List DomainRow) (ps qs : List Pair) (p : Pair) → IsOneMore ps p qs → HasBack before middle ps → HasBack middle after (p ∷ []) → HasBack before after qs
+back_next before middle after ps qs p more one two = record {
   initial = two.initial ∙ one.initial;
   sound = λ x v h. elim (two.sound x v h) [
-    | inl k ↦ elim (one.sound x v k) [ inl j ↦ inl j | inr m ↦ inr (Contains-append_left ps qs (pair_of x v) m) ]
-    | inr m ↦ inr (Contains-append_right ps qs (pair_of x v) m)
+    | inl k ↦ elim (one.sound x v k) [ inl j ↦ inl j | inr m ↦ inr (more.old (pair_of x v) m) ]
+    | inr m ↦ elim (member_cases p [] (pair_of x v) m) [
+      | inl e ↦ inr (member_same qs p (pair_of x v) e more.there)
+      | inr n ↦ absurd (member_nil (pair_of x v) n)
+    ]
   ];
   others = λ x v h. two.others x v (one.others x v h);
-  back = λ p m. elim (Contains-append_cases ps qs p m) [
-    | inl k ↦ two.others p.var p.value (one.back p k)
-    | inr k ↦ two.back p k
+  back = λ q m. elim (more.some q m) [
+    | inl k ↦ two.others q.var q.value (one.back q k)
+    | inr e ↦ two.back q (member_same (p ∷ []) p q e (member_here p []))
   ];
 }
 
--- ---- below a place
+-- ---- numbers that are gone
 
--- the lost pairs of the places below this one are back, their variables alone are noted, and it is told between which values they lie
-pub record IsBackBelow (g : Graph) (lost : ℕ → Bool) (es : List ℕ) (before now : List Row) (restored : List Restored) (place : ℕ) : Type 0 where
-  pub back : HasBack before now (lost_of g lost (take place es))
-  pub noted : (x : ℕ) → Contains (restored_vars restored) x → Contains (vars_of (lost_of g lost (take place es))) x
-  pub spanned : (p : Pair) → Contains (lost_of g lost (take place es)) p → IsSpanned restored p
+pub loses_none : (rows : List Row) → AreFormedRows rows → LosesNumbers rows rows []
+loses_none rows formed = record { formed = formed; gone = λ p m. absurd (member_nil p m); others = λ p n. refl }
 
-pub back_below_none : (g : Graph) (lost : ℕ → Bool) (es : List ℕ) (before : List Row) → IsBackBelow g lost es before before [] 0
-back_below_none g lost es before = record {
-  back = back_none before;
-  noted = λ x m. absurd (member_nil x m);
-  spanned = λ p m. absurd (member_nil p m);
+pub loses_one : (old middle new : List Row) (p : Pair) → AreFormedRows middle → number_at middle p ≡ Some NO_NUMBER → ((q : Pair) → (q ≡ p → ⊥) → number_at middle q ≡ number_at old q) → KeepsNumbers middle new → LosesNumbers old new (p ∷ [])
+loses_one old middle new p formed there others keeps = record {
+  formed = keeps.formed formed;
+  gone = λ q m. elim (member_cases p [] q m) [
+    | inl e ↦ subst (λ z. number_at new z ≡ Some NO_NUMBER) e (keeps.numbers p ∙ there)
+    | inr k ↦ absurd (member_nil q k)
+  ];
+  others = λ q n. keeps.numbers q ∙ others q (λ e. n (member_same (p ∷ []) p q (sym e) (member_here p [])));
 }
 
-pub back_below_next : (g : Graph) (lost : ℕ → Bool) (es : List ℕ) (before middle now : List Row) (restored later : List Restored) (p : Pair) (place : ℕ)
-    → lost_at g lost es place ≡ p ∷ [] → IsBackBelow g lost es before middle restored place → HasBack middle now (p ∷ [])
-    → ((x : ℕ) → Contains (restored_vars later) x → Contains (restored_vars restored) x ⊎ (p.var ≡ x)) → ((q : Pair) → IsSpanned restored q ⊎ (p ≡ q) → IsSpanned later q) → IsBackBelow g lost es before now later (place + 1)
-back_below_next g lost es before middle now restored later p place is below back noted spanned =
-    let some = lost_of g lost (take place es) in
-    let next : lost_of g lost (take (place + 1) es) ≡ some ++ p ∷ [] = lost_next g lost es place ∙ ap (λ l. some ++ l) is in
-    let more : vars_of (lost_of g lost (take (place + 1) es)) ≡ vars_of some ++ p.var ∷ [] = ap vars_of next ∙ map-append (λ (q : Pair). q.var) some (p ∷ []) in record {
-      back = subst (λ l. HasBack before now l) (sym next) (back_then before middle now some (p ∷ []) below.back back);
-      noted = λ x m. elim (noted x m) [
-        | inl o ↦ subst (λ l. Contains l x) (sym more) (Contains-append_left (vars_of some) (p.var ∷ []) x (below.noted x o))
-        | inr e ↦ subst (λ l. Contains l x) (sym more) (member_same (vars_of some ++ p.var ∷ []) p.var x e (Contains-push (vars_of some) p.var))
-      ];
-      spanned = λ q m. spanned q (elim (Contains-push_cases some p q (subst (λ l. Contains l q) next m)) [ inl o ↦ inl (below.spanned q o) | inr e ↦ inr e ]);
-    }
-
--- past the last place all lost pairs are back
-pub record IsAllBack (g : Graph) (lost : ℕ → Bool) (es : List ℕ) (before now : List Row) (restored : List Restored) : Type 0 where
-  pub back : HasBack before now (lost_of g lost es)
-  pub noted : (x : ℕ) → Contains (restored_vars restored) x → Contains (vars_of (lost_of g lost es)) x
-  pub spanned : (p : Pair) → Contains (lost_of g lost es) p → IsSpanned restored p
-
-pub back_below_all : (g : Graph) (lost : ℕ → Bool) (es : List ℕ) (before now : List Row) (restored : List Restored) (place : ℕ) → IsBackBelow g lost es before now restored place → length es ≤ place
-    → IsAllBack g lost es before now restored
-back_below_all g lost es before now restored place below le =
-    let all = take_all place es le in record {
-      back = subst (λ l. HasBack before now (lost_of g lost l)) all below.back;
-      noted = subst (λ l. (x : ℕ) → Contains (restored_vars restored) x → Contains (vars_of (lost_of g lost l)) x) all below.noted;
-      spanned = subst (λ l. (p : Pair) → Contains (lost_of g lost l) p → IsSpanned restored p) all below.spanned;
-    }
+pub loses_next : (old middle new : List Row) (ps qs : List Pair) (p : Pair) → IsOneMore ps p qs → LosesNumbers old middle ps → LosesNumbers middle new (p ∷ []) → LosesNumbers old new qs
+loses_next old middle new ps qs p more one two = record {
+  formed = two.formed;
+  gone = λ q m. elim (pair_known (p ∷ []) q) [
+    | inl k ↦ two.gone q k
+    | inr n ↦ elim (more.some q m) [
+      | inl k ↦ two.others q n ∙ one.gone q k
+      | inr e ↦ absurd (n (member_same (p ∷ []) p q e (member_here p [])))
+    ]
+  ];
+  others = λ q n.
+      two.others q (λ k. elim (member_cases p [] q k) [
+        | inl e ↦ n (member_same qs p q e more.there)
+        | inr j ↦ absurd (member_nil q j)
+      ]) ∙ one.others q (λ k. n (more.old q k));
+}

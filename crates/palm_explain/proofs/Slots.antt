@@ -1,4 +1,4 @@
--- Where the rows say that restored variables stand, what their entries tell, and rows that keep their keys.
+-- Where the rows say that restored variables stand, what their entries tell, and rows that keep their numbers.
 use Rattle.std.proofs.Common.{◌≡◌, ◌≢◌, ◌⊎◌, ◌∙◌, ℕ, ℤ, zero, suc, ◌<◌, ◌≤ℤ◌, List, [], ◌∷◌, ◌++◌, length, set, get_or, Some, slice_get, Contains, inl, inr, refl, sym, ap, subst, arith}
 use Rattle.std.proofs.lemmas.Bool.{cases_eq}
 use Rattle.std.proofs.lemmas.Int.{ints}
@@ -12,28 +12,35 @@ use Rattle.palm_model.specs.Event.{vars_of}
 use Rattle.palm_explain.specs.declared.restored.Restored.{Restored}
 use Rattle.palm_explain.specs.declared.rows.Row.{Row}
 use Rattle.palm_explain.specs.Explanations.{AreEnds, IsSpanned, restored_vars}
-use Rattle.palm_explain.specs.Restored.{AreSlotted, KeepsKeys, slot_at}
-use Rattle.palm_explain.specs.Rows.{key_at, row_key}
-use Rattle.palm_explain.proofs.Entered.{place_cases}
-use Rattle.palm_explain.proofs.Graphs.{some_same}
-use Rattle.palm_explain.proofs.Once.{place_distinct}
+use Rattle.palm_explain.specs.Restored.{AreSlotted, slot_at}
+use Rattle.palm_explain.specs.Rows.{number_at, row_number}
+use Rattle.palm_explain.proofs.Reasons.{some_same}
 
--- ---- rows that keep their keys
+-- ---- rows that keep their numbers
 
-pub keys_same : (rows : List Row) → KeepsKeys rows rows
-keys_same rows = record { long = refl; formed = λ f. f; keys = λ p. refl }
+-- a number that is found stands in a row
+number_in_row : (rows : List Row) (x k : ℕ) (v : ℤ) → row_number (slice_get rows x) v ≡ Some k → x < length rows
+number_in_row [] x k v is = cc
+number_in_row (r ∷ rows) zero k v is = omega arith
+number_in_row (r ∷ rows) (suc x) k v is = let lt = number_in_row rows x k v is in omega (arith, lt)
 
-pub keys_then : (rows middle later : List Row) → KeepsKeys rows middle → KeepsKeys middle later → KeepsKeys rows later
-keys_then rows middle later one two = record { long = two.long ∙ one.long; formed = λ f. two.formed (one.formed f); keys = λ p. two.keys p ∙ one.keys p }
+pub number_within : (rows : List Row) (p : Pair) (k : ℕ) → number_at rows p ≡ Some k → p.var < length rows
+number_within rows p k is = number_in_row rows p.var k p.value is
 
--- a key that is found stands in a row
-key_in_row : (rows : List Row) (x k : ℕ) (v : ℤ) → row_key (slice_get rows x) v ≡ Some k → x < length rows
-key_in_row [] x k v is = cc
-key_in_row (r ∷ rows) zero k v is = omega arith
-key_in_row (r ∷ rows) (suc x) k v is = let lt = key_in_row rows x k v is in omega (arith, lt)
+-- ---- places
 
-pub key_within : (rows : List Row) (p : Pair) (k : ℕ) → key_at rows p ≡ Some k → p.var < length rows
-key_within rows p k is = key_in_row rows p.var k p.value is
+pub place_cases : {X : Type 0} (xs : List X) (y : X) (i : ℕ) (x : X) → slice_get (xs ++ y ∷ []) i ≡ Some x → (slice_get xs i ≡ Some x) ⊎ ((i ≡ length xs) × (y ≡ x))
+place_cases [] y zero x at = inr (refl, some_same y x at)
+place_cases [] y (suc i) x at = cc
+place_cases (z ∷ xs) y zero x at = inl at
+place_cases (z ∷ xs) y (suc i) x at = elim (place_cases xs y i x at) [ inl o ↦ inl o | inr e ↦ inr (ap suc e.0, e.1) ]
+
+place_distinct : (ks : List ℕ) → ((i j k : ℕ) → slice_get ks i ≡ Some k → slice_get ks j ≡ Some k → i ≡ j) → Distinct ks
+place_distinct [] once = tt
+place_distinct (x ∷ ks) once = (
+  λ m. let p = member_place ks x m in let same = once 0 (suc p.0) x refl p.1 in absurd (omega (arith, same)),
+  place_distinct ks (λ i j k a b. let same = once (suc i) (suc j) k a b in omega (arith, same)),
+)
 
 -- ---- another one at a place
 

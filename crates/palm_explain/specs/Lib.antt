@@ -1,12 +1,9 @@
-pub mod Chain
-pub mod Counts
+pub mod Entries
 pub mod Explanations
-pub mod Graph
-pub mod Lost
+pub mod Firsts
+pub mod Losing
 pub mod Merging
 pub mod Needed
 pub mod Places
 pub mod Restored
 pub mod Rows
-pub mod Threads
-pub mod Whole

@@ -1,17 +1,18 @@
 -- Which removals the removals of pairs rest on, and how a walk finds their places.
-use Rattle.std.specs.Prelude.{◌≡◌, ◌⊎◌, ◌↔◌, ℕ, ℤ, ◌<◌, ◌≤◌, List, map, length, Contains, Some, slice_get}
+use Rattle.std.specs.Prelude.{◌≡◌, ◌⊎◌, ◌↔◌, ℕ, ℤ, ◌<◌, ◌≤◌, ◌<ℤ◌, ◌≤ℤ◌, List, Contains, Some, slice_get}
 use Rattle.std.specs.List.{AllPairs}
 use Rattle.palm_base.specs.Order.{Rises}
 use Rattle.palm_base.specs.declared.terms.Cid.{Cid}
 use Rattle.palm_base.specs.declared.terms.Pair.{Pair}
 use Rattle.palm_model.specs.Log.{Removal}
 use Rattle.palm_explain.specs.declared.places.PlaceWord.{PlaceWord}
-use Rattle.palm_explain.specs.Graph.{Graph, IsAntecedent, IsValueKey, Link, log_of, pair_at}
+use Rattle.palm_explain.specs.declared.entry.Entry.{Entry}
+use Rattle.palm_explain.specs.declared.noted.NotedSpan.{NotedSpan}
+use Rattle.palm_explain.specs.declared.rows.Row.{Row}
+pub use Rattle.palm_explain.specs.Entries.{pairs_with}
+use Rattle.palm_explain.specs.Entries.{log_of, written}
+use Rattle.palm_explain.specs.Rows.{HasNumber, number_at}
 use Rattle.palm_explain.specs.Places.{HasPlace}
-
--- the pairs of a variable with these values
-abbrev pub pairs_with : ℕ → List ℤ → List Pair
-pairs_with x values = map (λ v. record { var = x; value = v }) values
 
 -- a claim needs its own pairs, and with each pair of the log the reasons for which it was removed
 pub data IsNeeded (log : List Removal) (pairs : List Pair) : Pair → Type 0 where
@@ -43,23 +44,31 @@ pub record AreMakers (log : List Removal) (places : List ℕ) (cids : List Cid) 
 
 -- ---- the walk
 
--- the place of the removal under the key is noted
-pub record IsNoted (g : Graph) (noted : List PlaceWord) (k : ℕ) : Type 0 where
-  pub link : Link
-  pub stands : g k ≡ Some link
-  pub has : HasPlace noted link.place
+-- the numbers of those of these pairs that are removed are noted besides what was, and nothing else
+pub record HasNoted (rows : List Row) (old new : List PlaceWord) (pairs : List Pair) : Type 0 where
+  pub stay : (k : ℕ) → HasPlace old k → HasPlace new k
+  pub more : (p : Pair) (k : ℕ) → Contains pairs p → HasNumber rows p k → HasPlace new k
+  pub only : (k : ℕ) → HasPlace new k → HasPlace old k ⊎ ((p : Pair) × Contains pairs p × HasNumber rows p k)
 
--- the places of these removals are noted besides what was, and nothing else
-pub record HasNoted (g : Graph) (old new : List PlaceWord) (More : ℕ → Type 0) : Type 0 where
-  pub stay : (p : ℕ) → HasPlace old p → HasPlace new p
-  pub more : (k : ℕ) → More k → IsNoted g new k
-  pub only : (p : ℕ) → HasPlace new p → HasPlace old p ⊎ ((k : ℕ) × (l : Link) × More k × (g k ≡ Some l) × (l.place ≡ p))
-
--- down to the end all is visited: the places that are noted from there on, falling, and of each of them the antecedents are noted
-pub record IsWalked (g : Graph) (keys : List ℕ) (x : ℕ) (values : List ℤ) (noted : List PlaceWord) (end : ℕ) (visited : List ℕ) : Type 0 where
-  pub within : (p : ℕ) → HasPlace noted p → p < length keys
-  pub sound : (k : ℕ) → IsNoted g noted k → IsNeeded (log_of g keys) (pairs_with x values) (pair_at g k)
-  pub begun : (k : ℕ) → IsValueKey g x values k → IsNoted g noted k
-  pub closed : (k c : ℕ) (l : Link) → g k ≡ Some l → HasPlace noted l.place → end ≤ l.place → IsAntecedent g c k → IsNoted g noted c
-  pub listed : (p : ℕ) → Contains visited p ↔ (HasPlace noted p × (end ≤ p))
+-- down to the end all is visited: the places of the removals whose numbers are noted from there on, falling, and of each of them the
+-- reasons are noted
+pub record IsWalked (entries : List Entry) (rows : List Row) (pairs : List Pair) (noted : List PlaceWord) (end : ℕ) (visited : List ℕ) : Type 0 where
+  pub sound : (k : ℕ) → HasPlace noted k → (e : Entry) × Contains entries e × (e.number ≡ k) × IsNeeded (log_of rows entries) pairs e.pair
+  pub begun : (e : Entry) → Contains entries e → Contains pairs e.pair → HasPlace noted e.number
+  pub closed : (e f : Entry) → Contains entries e → Contains entries f → HasPlace noted e.number → end ≤ e.number → Contains (written rows e.number e.spans.items) f.pair → HasPlace noted f.number
+  pub listed : (place : ℕ) → Contains visited place ↔ ((e : Entry) × (slice_get entries place ≡ Some e) × HasPlace noted e.number × (end ≤ e.number))
   pub falls : Falls visited
+
+-- ---- spans of what is noted
+
+-- none of them has a value
+abbrev pub AreEmptySpans : List NotedSpan → Type 0
+AreEmptySpans spans = (x : ℕ) (s : NotedSpan) → slice_get spans x ≡ Some s → s.high <ℤ s.low
+
+-- the number of each value of the variable in the span that was removed before the number is noted
+abbrev pub IsNotedSpan : List Row → ℕ → NotedSpan → ℕ → List PlaceWord → Type 0
+IsNotedSpan rows x s n noted = (v : ℤ) (k : ℕ) → s.low ≤ℤ v → v ≤ℤ s.high → number_at rows (record { var = x; value = v }) ≡ Some k → k < n → HasPlace noted k
+
+-- that holds of each variable's span
+abbrev pub AreNotedSpans : List Row → List NotedSpan → ℕ → List PlaceWord → Type 0
+AreNotedSpans rows spans n noted = (x : ℕ) (s : NotedSpan) → slice_get spans x ≡ Some s → IsNotedSpan rows x s n noted

@@ -37,3 +37,9 @@ pub record IsLastBelow (words : List PlaceWord) (end place : ℕ) : Type 0 where
 pub record IsSearched (words : List PlaceWord) (end index : ℕ) : Type 0 where
   pub none : (k : ℕ) (d : PlaceWord) → k < index → k < length words → (p : ℕ) → IsIn (slice_index_or words k d) p → p < end → ⊥
   pub ahead : (k : ℕ) (d : PlaceWord) → index ≤ k → k < length words → (slice_index_or words k d).start < end
+
+-- the word at the index begins below the end, and the one before it does not
+pub record BeginsBelow (words : List PlaceWord) (index end : ℕ) : Type 0 where
+  pub within : index < length words
+  pub here : (d : PlaceWord) → (slice_index_or words index d).start < end
+  pub before : (d : PlaceWord) → 0 < index → end ≤ (slice_index_or words (index - 1) d).start

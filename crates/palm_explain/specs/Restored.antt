@@ -3,7 +3,7 @@ use Rattle.std.specs.Prelude.{◌≡◌, ℕ, List, length, Option, Some, None, 
 use Rattle.palm_base.specs.declared.terms.Pair.{Pair}
 use Rattle.palm_explain.specs.declared.restored.Restored.{Restored}
 use Rattle.palm_explain.specs.declared.rows.Row.{Row}
-use Rattle.palm_explain.specs.Rows.{AreFormedRows, key_at}
+use Rattle.palm_explain.specs.Rows.{AreFormedRows, number_at}
 
 -- the place that the row of a variable says
 abbrev pub slot_or : Option Row → ℕ
@@ -17,8 +17,8 @@ slot_at rows x = slot_or (slice_get rows x)
 abbrev pub AreSlotted : List Row → List Restored → Type 0
 AreSlotted rows restored = (i : ℕ) (r : Restored) → slice_get restored i ≡ Some r → slot_at rows r.var ≡ i
 
--- as many rows, with the same keys
-pub record KeepsKeys (old new : List Row) : Type 0 where
+-- as many rows, with the same numbers
+pub record KeepsNumbers (old new : List Row) : Type 0 where
   pub long : length new ≡ length old
   pub formed : AreFormedRows old → AreFormedRows new
-  pub keys : (p : Pair) → key_at new p ≡ key_at old p
+  pub numbers : (p : Pair) → number_at new p ≡ number_at old p

@@ -2,22 +2,18 @@
 #![tactic(auto)]
 
 mod cids;
-mod emptied;
-mod entering;
-mod forgetting;
-mod keys;
+mod entry;
+mod firsts;
 mod laws;
-mod limits;
-mod marking;
+mod losing;
+mod naming;
 mod needing;
-mod node;
+mod noted;
 mod places;
 mod restored;
 mod rows;
-mod spare;
+mod spans;
 mod store;
-mod threads;
-mod walking;
 mod withdrawing;
 
 pub use cids::add_cids;

@@ -1,112 +1,164 @@
 //! Which removals the removals of values rest on: a walk down the log from one needed removal to the next. What no needed removal has
-//! among its antecedents is not looked at, however many such removals stand between. A reason is removed before what it is a reason
+//! among its reasons is not looked at, however many such removals stand between. A reason is removed before what it is a reason
 //! for, so that none comes up behind the walk.
-ghost use Rattle.std.specs.Prelude.{◌≡◌, ◌↔◌, ℕ, ℤ, ◌<◌, Some, [], ◌∷◌, ◌++◌, length, slice_get, Contains, IfOk, MatchOption, OnOk};
-ghost use Rattle.palm_base.specs.Order.{Rises};
-ghost use Rattle.palm_model.specs.Log.{IsListOf, log_pairs};
-ghost use Rattle.palm_explain.specs.Explanations.{IsLinked, NamesOfSome};
-ghost use Rattle.palm_explain.specs.Graph.{AreFound, IsAntecedent, IsGraph, IsKey, IsValueKey, Link, graph_of, log_of, pair_at};
-ghost use Rattle.palm_explain.specs.Needed.{Falls, HasNoted, IsNeededAt, IsNoted, IsWalked, pairs_with};
-ghost use Rattle.palm_explain.specs.Places.{IsLastBelow};
+ghost use Rattle.std.specs.Prelude.{◌≡◌, ◌↔◌, ℕ, ◌<◌, [], None, Some, Contains, length, slice_get, IfOk, MatchOption, OnOk};
+ghost use Rattle.palm_model.specs.Log.{IsListOf};
+ghost use Rattle.palm_explain.specs.Entries.{AreEntered, log_of, pairs_with, row_span, span_pairs, written};
+ghost use Rattle.palm_explain.specs.Explanations.{NamesOfSome};
+ghost use Rattle.palm_explain.specs.Needed.{AreNotedSpans, Falls, HasNoted, IsNeededAt, IsNotedSpan};
 ghost use Rattle.palm_explain.specs.Rows.{AreFormedRows};
 
 use crate::cids::{Near, add_cid};
-use crate::node::Nodes;
+use crate::entry::{Entry, place_of};
+use crate::noted::{NotedSpan, empty_spans, noted_of, set_noted, wider};
 use crate::places::Places;
-use crate::rows::{Row, key_near};
+use crate::rows::{NO_NUMBER, Row, number_near};
+use crate::spans::Span;
 use palm_base::{Cid, NoMemory, Pair, Value, Var};
 use std::alloc::{AllocError, Global};
 
-/// The place of a pair's removal. Its value is looked for first near a place of the row.
-pub(crate) fn place_near(
-    nodes: &Nodes,
-    rows: &[Row],
-    pair: &Pair,
-    near: &mut usize,
-) -> Option<usize>
-    requires formed { AreFormedRows rows.now }
-    requires found { AreFound rows.now (graph_of nodes.now) }
-    ensures { MatchOption result
-        ((k : ℕ) → IsKey (graph_of nodes.now) k → pair_at (graph_of nodes.now) k ≡ pair.now → ⊥)
-        (λ place. (k : ℕ) × (l : Link) × (graph_of nodes.now k ≡ Some l) × (l.pair ≡ pair.now) × (l.place ≡ place)) }
-{
-    let node = nodes.get(key_near(rows, pair, near)? as usize)?;
-    if node.pair == *pair {
-        Some(node.place)
-    } else {
-        None
-    }
-}
-
-/// Notes the removals of those of these values that are removed.
-fn note_values(
-    nodes: &Nodes,
-    rows: &[Row],
-    var: Var,
-    values: &[Value],
-    noted: &mut Places,
-) -> Result<(), NoMemory>
-    requires formed { AreFormedRows rows.now }
-    requires found { AreFound rows.now (graph_of nodes.now) }
-    ensures { OnOk result (HasNoted (graph_of nodes.now) noted.old noted.new (IsValueKey (graph_of nodes.now) var values.now)) }
+/// Notes the numbers of those of these values that are removed.
+fn note_values(rows: &[Row], var: Var, values: &[Value], noted: &mut Places) -> Result<(), NoMemory>
+    requires { AreFormedRows rows.now }
+    ensures { OnOk result (HasNoted rows.now noted.old noted.new (pairs_with var values.now)) }
 {
     let mut near = 0;
     for value in values {
         let pair = Pair { var, value: *value };
-        if let Some(place) = place_near(nodes, rows, &pair, &mut near) {
-            noted.add(place)?;
+        if let Some(number) = number_near(rows, &pair, &mut near) {
+            if number != NO_NUMBER {
+                noted.add(number)?;
+            }
         }
     }
     Ok(())
 }
 
-/// Notes the antecedents of a removal.
-fn note_antecedents(nodes: &Nodes, key: u32, noted: &mut Places) -> Result<(), NoMemory>
-    requires key { IsKey (graph_of nodes.now) key }
-    requires keys { (c : ℕ) → IsAntecedent (graph_of nodes.now) c key → IsKey (graph_of nodes.now) c }
-    ensures { OnOk result (HasNoted (graph_of nodes.now) noted.old noted.new (λ c. IsAntecedent (graph_of nodes.now) c key)) }
+/// The row of a variable, if it has one.
+fn row_at(rows: &[Row], var: Var) -> Option<&Row>
+    ensures { MatchOption result (slice_get rows.now var ≡ None) (λ row. slice_get rows.now var ≡ Some row.now) }
 {
-    let antecedents = nodes[key as usize].antecedents.as_slice();
-    for antecedent in antecedents {
-        noted.add(nodes[*antecedent as usize].place)?;
+    rows.get(var.0 as usize)
+}
+
+/// Notes the numbers of those values of a variable from `low` to `high` that were removed before the number.
+fn note_between(
+    rows: &[Row],
+    var: Var,
+    low: Value,
+    high: Value,
+    number: usize,
+    noted: &mut Places,
+) -> Result<(), NoMemory>
+    requires { AreFormedRows rows.now }
+    ensures { OnOk result (HasNoted rows.now noted.old noted.new (pairs_with var (row_span (slice_get rows.now var) number low high))) }
+{
+    let Some(row) = row_at(rows, var) else {
+        return Ok(());
+    };
+    let mut place = row.first_from(low);
+    while let Some(next) = row.next_before(place, high, number) {
+        noted.add(row.numbered(next).1)?;
+        place = next + 1;
     }
     Ok(())
 }
 
-/// The key of the removal at a place.
-#[inline(always)]
-fn key_of_place(log: &[u32], place: usize) -> u32
-    requires { place < length log.now }
-    ensures { slice_get log.now place ≡ Some result }
+/// Notes the numbers of the reasons of a span, but for those that the known span of its variable holds. What is known then is the
+/// result.
+fn note_rest(
+    rows: &[Row],
+    span: &Span,
+    number: usize,
+    known: NotedSpan,
+    noted: &mut Places,
+) -> Result<NotedSpan, NoMemory>
+    requires formed { AreFormedRows rows.now }
+    requires known { IsNotedSpan rows.now span.now.var known number noted.old }
+    ensures noted { OnOk result (HasNoted rows.now noted.old noted.new (span_pairs rows.now number span.now)) }
+    ensures known { IfOk result (λ more. IsNotedSpan rows.now span.now.var more number noted.new) }
 {
-    log[place]
+    let Span { var, low, high, .. } = *span;
+    if known.has_all(low, high) {
+        return Ok(known);
+    }
+    if !known.meets(low, high) {
+        note_between(rows, var, low, high, number, noted)?;
+        return Ok(wider(known, NotedSpan { low, high }));
+    }
+    note_between(rows, var, low, known.low, number, noted)?;
+    note_between(rows, var, known.high, high, number, noted)?;
+    Ok(known.widened(low, high))
+}
+
+/// Notes the numbers of the reasons of a span, but for those that the known spans hold.
+fn note_span(
+    rows: &[Row],
+    span: &Span,
+    number: usize,
+    known: &mut Vec<NotedSpan>,
+    noted: &mut Places,
+) -> Result<(), NoMemory>
+    requires formed { AreFormedRows rows.now }
+    requires known { AreNotedSpans rows.now known.old.items number noted.old }
+    ensures noted { OnOk result (HasNoted rows.now noted.old noted.new (span_pairs rows.now number span.now)) }
+    ensures known { OnOk result (AreNotedSpans rows.now known.new.items number noted.new) }
+{
+    let more = note_rest(rows, span, number, noted_of(known, span.var), noted)?;
+    set_noted(known, span.var, more);
+    Ok(())
+}
+
+/// Notes the numbers of the reasons of a removal, but for those that the known spans hold.
+fn note_reasons(
+    rows: &[Row],
+    entry: &Entry,
+    known: &mut Vec<NotedSpan>,
+    noted: &mut Places,
+) -> Result<(), NoMemory>
+    requires formed { AreFormedRows rows.now }
+    requires known { AreNotedSpans rows.now known.old.items entry.now.number noted.old }
+    ensures noted { OnOk result (HasNoted rows.now noted.old noted.new (written rows.now entry.now.number entry.now.spans.items)) }
+    ensures known { OnOk result (AreNotedSpans rows.now known.new.items entry.now.number noted.new) }
+{
+    for span in entry.spans.as_slice() {
+        note_span(rows, span, entry.number, known, noted)?;
+    }
+    Ok(())
+}
+
+/// The entry at a place.
+#[inline(always)]
+fn entry_at(log: &[Entry], place: usize) -> &Entry
+    requires { place < length log.now }
+    ensures { slice_get log.now place ≡ Some result.now }
+{
+    &log[place]
 }
 
 /// Adds the places of the removals on which those of these values rest, where they are removed, to none: themselves, and the reasons
 /// of each. They fall.
 pub(crate) fn add_needed(
-    nodes: &Nodes,
-    log: &[u32],
+    log: &[Entry],
     rows: &[Row],
     var: Var,
     values: &[Value],
     visited: &mut Vec<usize>,
 ) -> Result<(), NoMemory>
-    requires linked { IsLinked (log_of (graph_of nodes.now) log.now) }
-    requires graph { IsGraph (graph_of nodes.now) log.now }
-    requires formed { AreFormedRows rows.now }
-    requires found { AreFound rows.now (graph_of nodes.now) }
+    requires entered { (next : ℕ) × AreEntered log.now rows.now next }
     requires none { visited.old.items ≡ [] }
     ensures falls { OnOk result (Falls visited.new.items) }
-    ensures each { OnOk result ((place : ℕ) → Contains visited.new.items place ↔ IsNeededAt (log_of (graph_of nodes.now) log.now) (pairs_with var values.now) place) }
+    ensures each { OnOk result ((place : ℕ) → Contains visited.new.items place ↔ IsNeededAt (log_of rows.now log.now) (pairs_with var values.now) place) }
 {
     let mut noted = Places::new(*visited.allocator());
-    note_values(nodes, rows, var, values, &mut noted)?;
-    let mut end = log.len();
-    while let Some(place) = noted.last_below(end) {
+    note_values(rows, var, values, &mut noted)?;
+    let mut known = empty_spans(*visited.allocator(), rows.len())?;
+    let mut end = NO_NUMBER;
+    while let Some(number) = noted.last_below(end) {
+        let place = place_of(log, number);
         visited.push(place)?;
-        note_antecedents(nodes, key_of_place(log, place), &mut noted)?;
-        end = place;
+        note_reasons(rows, entry_at(log, place), &mut known, &mut noted)?;
+        end = number;
     }
     Ok(())
 }
@@ -114,25 +166,25 @@ pub(crate) fn add_needed(
 /// The ids of all constraints on which the removals of these values rest, by rising id.
 pub(crate) fn cids_of(
     alloc: Global,
-    nodes: &Nodes,
-    log: &[u32],
+    log: &[Entry],
     rows: &[Row],
     var: Var,
     values: &[Value],
 ) -> Result<Vec<Cid>, NoMemory>
-    requires linked { IsLinked (log_of (graph_of nodes.now) log.now) }
-    requires graph { IsGraph (graph_of nodes.now) log.now }
-    requires formed { AreFormedRows rows.now }
-    requires found { AreFound rows.now (graph_of nodes.now) }
-    ensures { IfOk result (λ cids. IsListOf (NamesOfSome (log_of (graph_of nodes.now) log.now) var values.now) cids.items) }
+    requires entered { (next : ℕ) × AreEntered log.now rows.now next }
+    ensures { IfOk result (λ cids. IsListOf (NamesOfSome (log_of rows.now log.now) var values.now) cids.items) }
 {
-    let mut needed = Vec::new(alloc);
-    add_needed(nodes, log, rows, var, values, &mut needed)?;
+    let mut noted = Places::new(alloc);
+    note_values(rows, var, values, &mut noted)?;
+    let mut known = empty_spans(alloc, rows.len())?;
     let mut cids = Vec::new(alloc);
     let mut near = Near::new();
-    for place in &needed {
-        let key = key_of_place(log, *place);
-        add_cid(&mut cids, &mut near, &nodes[key as usize].by)?;
+    let mut end = NO_NUMBER;
+    while let Some(number) = noted.last_below(end) {
+        let entry = entry_at(log, place_of(log, number));
+        add_cid(&mut cids, &mut near, &entry.by)?;
+        note_reasons(rows, entry, &mut known, &mut noted)?;
+        end = number;
     }
     Ok(cids)
 }

@@ -4,7 +4,7 @@ ghost use Rattle.std.specs.Prelude.{◌≡◌, ◌⊎◌, ℕ, ◌%◌, ◌<◌,
 ghost use Rattle.std.specs.Int.{bit_at};
 ghost use Rattle.palm_base.specs.Order.{IsPartedAt};
 ghost use Rattle.palm_base.specs.Tells.{Tells};
-ghost use Rattle.palm_explain.specs.Places.{ArePlaceWords, HasPlace, IsIn, IsLastBelow, IsLastIn, with_bit};
+ghost use Rattle.palm_explain.specs.Places.{ArePlaceWords, BeginsBelow, HasPlace, IsIn, IsLastBelow, IsLastIn, with_bit};
 ghost use Rattle.palm_explain.specs.declared.places.PlaceWord.{PlaceWord as PlaceWordTerm};
 
 use palm_base::NoMemory;
@@ -106,25 +106,62 @@ fn index_of(words: &[PlaceWord], start: usize) -> usize
     words.partition_point(|word| start < word.start)
 }
 
-/// How many of the words begin behind this place: mostly the word at `near` begins there.
+/// The index of the word that begins at this place if no word is missing behind it.
+#[inline(always)]
+fn guessed(words: &[PlaceWord], start: usize) -> usize {
+    match words.first() {
+        Some(first) => first.start.wrapping_sub(start) / 64,
+        None => 0,
+    }
+}
+
+/// How many of the words begin behind this place: mostly the word at `near` begins there, or no word is missing.
 #[inline(always)]
 fn index_near(words: &[PlaceWord], near: usize, start: usize) -> usize
     requires { ArePlaceWords words.now }
     ensures { IsPartedAt (λ w. nat_lt start w.start) words.now result }
 {
     if starts_at(words, near, start) {
-        near
-    } else {
-        index_of(words, start)
+        return near;
     }
+    let guess = guessed(words, start);
+    if starts_at(words, guess, start) {
+        return guess;
+    }
+    index_of(words, start)
 }
 
-/// How many of the words begin at this place or behind it.
-fn index_below(words: &[PlaceWord], end: usize) -> usize
+/// How many of the words begin at this place or behind it, found by halves.
+#[inline(never)]
+fn index_from(words: &[PlaceWord], end: usize) -> usize
     requires { ArePlaceWords words.now }
     ensures { IsPartedAt (λ w. nat_le end w.start) words.now result }
 {
     words.partition_point(|word| end <= word.start)
+}
+
+/// Whether the word at an index is the first one that begins below this place.
+#[inline(always)]
+fn begins_below(words: &[PlaceWord], index: usize, end: usize) -> bool
+    ensures { result ≡ true → BeginsBelow words.now index end }
+{
+    match words.get(index) {
+        Some(word) => word.start < end && (index == 0 || end <= words[index - 1].start),
+        None => false,
+    }
+}
+
+/// How many of the words begin at this place or behind it: mostly no word is missing.
+fn index_below(words: &[PlaceWord], end: usize) -> usize
+    requires { ArePlaceWords words.now }
+    ensures { IsPartedAt (λ w. nat_le end w.start) words.now result }
+{
+    let last = end.wrapping_sub(1);
+    let guess = guessed(words, last - last % 64);
+    if begins_below(words, guess, end) {
+        return guess;
+    }
+    index_from(words, end)
 }
 
 /// Makes a bit of the word at an index a one.

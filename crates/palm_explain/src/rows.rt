@@ -1,17 +1,20 @@
-//! The keys of removed pairs, in a row for each variable, so that none is looked up by hashing.
-ghost use Rattle.std.specs.Prelude.{◌≡◌, ◌≢◌, ℕ, ℤ, ◌<◌, ◌≤◌, true, None, Some, length, slice_index_or, MatchOption, OnOk};
+//! The numbers of removed pairs, in a row for each variable, so that none is looked up by hashing.
+ghost use Rattle.std.specs.Prelude.{◌≡◌, ◌≢◌, ℕ, ℤ, ◌+◌, ◌<◌, ◌≤◌, true, None, Some, [], ◌∷◌, length, slice_get, slice_index_or, IfNone, IfSome, MatchOption, OnErr, OnOk};
 ghost use Rattle.palm_base.specs.declared.terms.Pair.{Pair as PairTerm};
-ghost use Rattle.palm_explain.specs.Restored.{KeepsKeys, slot_at};
-ghost use Rattle.palm_explain.specs.Rows.{AreFormedRows, IsFormedRow, key_at, key_in};
+ghost use Rattle.palm_explain.specs.Restored.{KeepsNumbers, slot_at};
+ghost use Rattle.palm_explain.specs.Rows.{AreFormedRows, IsFormedRow, number_at, number_in, rest_in, span_in};
 
 use palm_base::{NoMemory, Pair, Value, Var};
 use std::alloc::{AllocError, AllocFailed, Global};
 
-/// The values that a variable lost at some time, ascending, and beside each the key of its last removal.
+/// The number of a value that is not removed.
+pub(crate) const NO_NUMBER: usize = usize::MAX;
+
+/// The values that a variable lost at some time, ascending, and beside each the number of its removal, if it is removed.
 #[derive(Debug, Drop)]
 pub(crate) struct Row {
     values: Vec<Value>,
-    keys: Vec<u32>,
+    numbers: Vec<usize>,
     /// Where the variable stands in the list of those of which the last withdrawal put values back, if it is there.
     slot: usize,
 }
@@ -19,18 +22,18 @@ pub(crate) struct Row {
 impl Row {
     fn new(alloc: Global) -> Row
         ensures formed { IsFormedRow result }
-        ensures none { (v : ℤ) → key_in result.values.items result.keys.items v ≡ None }
+        ensures none { (v : ℤ) → number_in result.values.items result.numbers.items v ≡ None }
     {
         Row {
             values: Vec::new(alloc),
-            keys: Vec::new(alloc),
+            numbers: Vec::new(alloc),
             slot: 0,
         }
     }
 
     /// Whether the value stands at the place.
     #[inline(always)]
-    fn has_at(&self, place: usize, value: Value) -> bool
+    pub(crate) fn has_at(&self, place: usize, value: Value) -> bool
         ensures { result ≡ true → (place < length self.now.values.items)
             × (slice_index_or self.now.values.items place value ≡ value) }
     {
@@ -42,7 +45,7 @@ impl Row {
     fn place_of(&self, value: Value) -> Option<usize>
         requires { IsFormedRow self.now }
         ensures { MatchOption result
-            (key_in self.now.values.items self.now.keys.items value ≡ None)
+            (number_in self.now.values.items self.now.numbers.items value ≡ None)
             (λ place. (place < length self.now.values.items) × (slice_index_or self.now.values.items place value ≡ value)) }
     {
         match self.values.binary_search(&value) {
@@ -51,71 +54,146 @@ impl Row {
         }
     }
 
-    /// The key of a value, which is looked for first near a place.
+    /// The place of a value that has one. It is looked for first at a place.
     #[inline(always)]
-    pub(crate) fn key_near(&self, value: Value, near: &mut usize) -> Option<u32>
+    pub(crate) fn place_near(&self, value: Value, near: usize) -> usize
+        requires formed { IsFormedRow self.now }
+        requires there { (k : ℕ) × (number_in self.now.values.items self.now.numbers.items value ≡ Some k) }
+        ensures { slice_get self.now.values.items result ≡ Some value }
+    {
+        if self.has_at(near, value) {
+            return near;
+        }
+        self.place_of(value).unwrap()
+    }
+
+    /// The number of a value, which is looked for first near a place.
+    #[inline(always)]
+    pub(crate) fn number_near(&self, value: Value, near: &mut usize) -> Option<usize>
         requires { IsFormedRow self.now }
-        ensures { result ≡ key_in self.now.values.items self.now.keys.items value }
+        ensures { result ≡ number_in self.now.values.items self.now.numbers.items value }
     {
         let place = *near;
         if self.has_at(place, value) {
             *near = place.wrapping_add(1);
-            return Some(self.keys[place]);
+            return Some(self.numbers[place]);
         }
         match self.place_of(value) {
             Some(place) => {
                 *near = place.wrapping_add(1);
-                Some(self.keys[place])
+                Some(self.numbers[place])
             }
             None => None,
         }
     }
 
-    /// Sets the key of a value; without memory nothing changes.
-    fn put(&mut self, value: Value, key: u32) -> Result<(), NoMemory>
+    /// How many of the values are less.
+    #[inline(always)]
+    pub(crate) fn first_from(&self, low: Value) -> usize
+        requires { IsFormedRow self.now }
+        ensures { (n : ℕ) (high : ℤ) → rest_in self.now n high result ≡ span_in self.now n low high }
+    {
+        self.values.partition_point(|value| *value < low)
+    }
+
+    /// The first place from this one on whose value is at most `high`, and was removed before the number.
+    #[inline(always)]
+    pub(crate) fn next_before(&self, place: usize, high: Value, number: usize) -> Option<usize>
+        requires { IsFormedRow self.now }
+        ensures some { IfSome result (λ next. (next < length self.now.values.items)
+            × ((d : ℤ) → rest_in self.now number high place ≡ slice_index_or self.now.values.items next d ∷ rest_in self.now number high (next + 1))) }
+        ensures none { IfNone result (rest_in self.now number high place ≡ []) }
+    {
+        let mut next = place;
+        while next < self.values.len() && self.values[next].0 <= high.0 {
+            if self.numbers[next] < number {
+                return Some(next);
+            }
+            next += 1;
+        }
+        None
+    }
+
+    /// The value at a place, and its number.
+    #[inline(always)]
+    pub(crate) fn numbered(&self, place: usize) -> (Value, usize)
+        requires formed { IsFormedRow self.now }
+        requires within { place < length self.now.values.items }
+        ensures value { slice_get self.now.values.items place ≡ Some result.0 }
+        ensures number { number_in self.now.values.items self.now.numbers.items result.0 ≡ Some result.1 }
+    {
+        (self.values[place], self.numbers[place])
+    }
+
+    /// Sets the number of a value that has one.
+    fn set(&mut self, value: Value, number: usize)
+        requires formed { IsFormedRow self.old }
+        requires there { (k : ℕ) × (number_in self.old.values.items self.old.numbers.items value ≡ Some k) }
+        ensures formed { IsFormedRow self.new }
+        ensures there { number_in self.new.values.items self.new.numbers.items value ≡ Some number }
+        ensures others { (v : ℤ) → (v ≡ value → ⊥)
+            → number_in self.new.values.items self.new.numbers.items v ≡ number_in self.old.values.items self.old.numbers.items v }
+        ensures slot { self.new.slot ≡ self.old.slot }
+    {
+        let place = self.place_of(value).unwrap();
+        self.numbers[place] = number;
+    }
+
+    /// Sets the number of a value; without memory nothing changes.
+    fn put(&mut self, value: Value, number: usize) -> Result<(), NoMemory>
         requires { IsFormedRow self.old }
         ensures formed { IsFormedRow self.new }
-        ensures there { OnOk result (key_in self.new.values.items self.new.keys.items value ≡ Some key) }
+        ensures there { OnOk result (number_in self.new.values.items self.new.numbers.items value ≡ Some number) }
+        ensures err { OnErr result ((v : ℤ) → number_in self.new.values.items self.new.numbers.items v ≡ number_in self.old.values.items self.old.numbers.items v) }
         ensures others { (v : ℤ) → (v ≡ value → ⊥)
-            → key_in self.new.values.items self.new.keys.items v ≡ key_in self.old.values.items self.old.keys.items v }
+            → number_in self.new.values.items self.new.numbers.items v ≡ number_in self.old.values.items self.old.numbers.items v }
     {
         match self.values.binary_search(&value) {
-            Ok(place) => self.keys[place] = key,
+            Ok(place) => self.numbers[place] = number,
             Err(place) => {
-                self.keys.reserve(1)?;
+                self.numbers.reserve(1)?;
                 self.values.insert(place, value)?;
-                self.keys.insert(place, key).unwrap();
+                self.numbers.insert(place, number).unwrap();
             }
         }
         Ok(())
     }
 }
 
-/// The key under which the pair was entered last. Its value is looked for first near a place of the row, and `near` is
+/// The number under which the pair was entered last. Its value is looked for first near a place of the row, and `near` is
 /// then the place behind it: pairs of one variable mostly come with rising values.
 #[inline(always)]
-pub(crate) fn key_near(rows: &[Row], pair: &Pair, near: &mut usize) -> Option<u32>
+pub(crate) fn number_near(rows: &[Row], pair: &Pair, near: &mut usize) -> Option<usize>
     requires { AreFormedRows rows.now }
-    ensures { result ≡ key_at rows.now pair.now }
+    ensures { result ≡ number_at rows.now pair.now }
 {
     let row = rows.get(pair.var.0 as usize)?;
-    row.key_near(pair.value, near)
+    row.number_near(pair.value, near)
 }
 
-/// The key under which the pair was entered last.
-pub(crate) fn key_of(rows: &[Row], pair: &Pair) -> Option<u32>
+/// The row of a variable.
+#[inline(always)]
+pub(crate) fn row_of(rows: &[Row], var: Var) -> &Row
+    requires { var < length rows.now }
+    ensures { slice_get rows.now var ≡ Some result.now }
+{
+    &rows[var.0 as usize]
+}
+
+/// The number under which the pair was entered last.
+pub(crate) fn number_of(rows: &[Row], pair: &Pair) -> Option<usize>
     requires { AreFormedRows rows.now }
-    ensures { result ≡ key_at rows.now pair.now }
+    ensures { result ≡ number_at rows.now pair.now }
 {
     let mut near = 0;
-    key_near(rows, pair, &mut near)
+    number_near(rows, pair, &mut near)
 }
 
-/// Makes a row for each of the first variables, so many of them; all keys stay.
+/// Makes a row for each of the first variables, so many of them; all numbers stay.
 fn reach(rows: &mut Vec<Row>, variables: usize) -> Result<(), NoMemory>
     requires { AreFormedRows rows.old.items }
     ensures formed { AreFormedRows rows.new.items }
-    ensures same { (p : PairTerm) → key_at rows.new.items p ≡ key_at rows.old.items p }
+    ensures same { (p : PairTerm) → number_at rows.new.items p ≡ number_at rows.old.items p }
     ensures reached { OnOk result (variables ≤ length rows.new.items) }
 {
     while rows.len() < variables {
@@ -125,32 +203,49 @@ fn reach(rows: &mut Vec<Row>, variables: usize) -> Result<(), NoMemory>
     Ok(())
 }
 
-/// Sets the key of a pair; without memory all keys stay.
-pub(crate) fn put_key(rows: &mut Vec<Row>, pair: &Pair, key: u32) -> Result<(), NoMemory>
+/// Sets the number of a pair; without memory all numbers stay.
+pub(crate) fn put_number(rows: &mut Vec<Row>, pair: &Pair, number: usize) -> Result<(), NoMemory>
     requires { AreFormedRows rows.old.items }
     ensures formed { AreFormedRows rows.new.items }
-    ensures there { OnOk result (key_at rows.new.items pair.now ≡ Some key) }
-    ensures others { (p : PairTerm) → (p ≡ pair.now → ⊥) → key_at rows.new.items p ≡ key_at rows.old.items p }
+    ensures there { OnOk result (number_at rows.new.items pair.now ≡ Some number) }
+    ensures err { OnErr result ((p : PairTerm) → number_at rows.new.items p ≡ number_at rows.old.items p) }
+    ensures others { (p : PairTerm) → (p ≡ pair.now → ⊥) → number_at rows.new.items p ≡ number_at rows.old.items p }
 {
     let place = pair.var.0 as usize;
     reach(rows, place + 1)?;
     let row = &mut rows[place];
-    row.put(pair.value, key)
+    row.put(pair.value, number)
+}
+
+/// Sets the number of a pair that has one.
+pub(crate) fn set_number(rows: &mut Vec<Row>, pair: &Pair, number: usize)
+    requires formed { AreFormedRows rows.old.items }
+    requires there { (k : ℕ) × (number_at rows.old.items pair.now ≡ Some k) }
+    ensures formed { AreFormedRows rows.new.items }
+    ensures there { number_at rows.new.items pair.now ≡ Some number }
+    ensures others { (p : PairTerm) → (p ≡ pair.now → ⊥) → number_at rows.new.items p ≡ number_at rows.old.items p }
+    ensures long { length rows.new.items ≡ length rows.old.items }
+    ensures slots { (x : ℕ) → slot_at rows.new.items x ≡ slot_at rows.old.items x }
+{
+    let row = &mut rows[pair.var.0 as usize];
+    row.set(pair.value, number);
 }
 
 /// Where a variable stands in the list of restored ones, if it is there.
 #[inline(always)]
 pub(crate) fn slot_of(rows: &[Row], var: Var) -> usize
-    requires { var < length rows.now }
     ensures { result ≡ slot_at rows.now var }
 {
-    rows[var.0 as usize].slot
+    match rows.get(var.0 as usize) {
+        Some(row) => row.slot,
+        None => 0,
+    }
 }
 
 /// Notes where a variable stands in the list of restored ones.
 pub(crate) fn set_slot(rows: &mut Vec<Row>, var: Var, slot: usize)
     requires { var < length rows.old.items }
-    ensures keys { KeepsKeys rows.old.items rows.new.items }
+    ensures numbers { KeepsNumbers rows.old.items rows.new.items }
     ensures noted { slot_at rows.new.items var ≡ slot }
     ensures others { (x : ℕ) → x ≢ var → slot_at rows.new.items x ≡ slot_at rows.old.items x }
 {

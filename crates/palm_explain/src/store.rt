@@ -6,56 +6,48 @@ ghost use Rattle.palm_domain.specs.Rows.{initial_of};
 ghost use Rattle.palm_model.specs.Constraint.{Distinct};
 ghost use Rattle.palm_model.specs.Event.{lost_pairs, vars_of};
 ghost use Rattle.palm_model.specs.Log.{IsListOf, Loses, NamesOfPair, log_pairs};
-ghost use Rattle.palm_explain.specs.Needed.{AreNeeded, pairs_with};
+ghost use Rattle.palm_explain.specs.Entries.{pairs_with};
+ghost use Rattle.palm_explain.specs.Needed.{AreNeeded};
 ghost use Rattle.palm_explain.specs.Explanations.{AreEnds, IsLinked, IsSpanned, LacksExactly, NamesOfSome, log_bys, reasons_of, restored_vars};
 
-use crate::emptied::Emptied;
-use crate::entering::{antecedents_of, link, make_room, unlink};
-use crate::forgetting::{forget_lost, forget_threads};
-use crate::marking::mark_lost;
-use crate::needing::{add_needed, cids_of, place_near};
-use crate::node::{Node, Nodes, guessed};
+use crate::entry::{Entry, place_of};
+use crate::firsts::Firsts;
+use crate::losing::lose_each;
+use crate::naming::names_at;
+use crate::needing::{add_needed, cids_of};
 use crate::restored::Restored;
-use crate::rows::{Row, key_of, put_key};
-use crate::spare::Spare;
-use crate::threads::Threads;
-use crate::walking::rests_on;
-use crate::withdrawing::{close_up, put_back, remove_lost};
+use crate::rows::{NO_NUMBER, Row, number_of, put_number};
+use crate::spans::{reason_in, spans_of};
+use crate::withdrawing::close_up;
 use palm_base::{Cid, CidList, NoMemory, Pair, Value, Var};
 use palm_domain::DomainStore;
-use slab::Slab;
 use std::alloc::{AllocError, Global};
 use std::marker::Model;
 
-/// The removals as a graph: each is a node with links to its reasons and from them, and no explanation is stored. The
+/// The removals in their order, each with spans of values that were removed before it: its reasons. No explanation is stored. The
 /// explanation of a removal is its constraint together with the explanations of its reasons: a set of constraints that
 /// together imply that the variable does not take the value.
 #[derive(Debug, Drop)]
 pub struct ExplainStore {
-    nodes: Nodes,
-    /// The keys of the nodes in the order of the removals.
-    log: Vec<u32>,
+    log: Vec<Entry>,
     rows: Vec<Row>,
-    threads: Threads,
+    /// The number of the next removal.
+    next: usize,
+    firsts: Firsts,
     /// The variables of which the last withdrawal put values back, each once.
     restored: Vec<Restored>,
-    /// The removals that stay and lose dependents, while a withdrawal is on its way.
-    losing: Vec<u32>,
-    emptied: Emptied,
-    spare: Spare,
 }
 
 impl Model for ExplainStore {
     ghost use Rattle.std.specs.Prelude.{vec_capacity};
     ghost use Rattle.palm_explain.specs.Explanations.{Explanations};
-    ghost use Rattle.palm_explain.specs.Graph.{graph_of, log_of};
-    ghost use Rattle.palm_explain.specs.Whole.{IsWhole};
+    ghost use Rattle.palm_explain.specs.Entries.{IsWhole, log_of};
 
     ghost Value = { Explanations };
 
-    ghost view = { λ s. record { log = log_of (graph_of s.nodes) s.log.items; restored = s.restored.items } };
+    ghost view = { λ s. record { log = log_of s.rows.items s.log.items; restored = s.restored.items } };
 
-    ghost invariant = { λ s. IsWhole s.nodes s.log.items s.rows.items (vec_capacity s.restored) (vec_capacity s.losing) s.threads };
+    ghost invariant = { λ s. IsWhole s.log.items s.rows.items s.next (vec_capacity s.restored) s.firsts };
 }
 
 impl ExplainStore {
@@ -64,14 +56,11 @@ impl ExplainStore {
         ensures { result ≡ record { log = []; restored = [] } }
     {
         ExplainStore {
-            nodes: Slab::new(alloc),
             log: Vec::new(alloc),
             rows: Vec::new(alloc),
-            threads: Threads::new(alloc),
+            next: 0,
+            firsts: Firsts::new(alloc),
             restored: Vec::new(alloc),
-            losing: Vec::new(alloc),
-            emptied: Emptied::new(alloc),
-            spare: Spare::new(alloc),
         }
     }
 
@@ -82,43 +71,24 @@ impl ExplainStore {
         ensures ok { OnOk result (self.new ≡ record self.old { log = self.old.log ++ record { pair = pair; by = by; reasons = reasons.now } ∷ [] }) }
         ensures err { OnErr result (self.new ≡ self.old) }
     {
-        let key = match u32::try_from(self.nodes.vacant_key()) {
-            Ok(key) => key,
-            Err(_) => return Err(NoMemory),
-        };
-        let place = self.log.len();
-        put_key(&mut self.rows, &pair, key)?;
-        let empty = self.spare.take(reasons.len());
-        let antecedents = antecedents_of(&self.nodes, &self.rows, reasons, empty)?;
-        make_room(
-            &mut self.nodes,
-            &mut self.log,
-            &mut self.restored,
-            &mut self.losing,
-            &mut self.emptied,
-            &mut self.spare,
-        )?;
-        link(&mut self.nodes, &antecedents, key)?;
-        let at = match self.threads.push(&by, key) {
-            Ok(at) => at,
-            Err(NoMemory) => {
-                unlink(&mut self.nodes, &antecedents, key);
-                return Err(NoMemory);
-            }
-        };
-        self.nodes.insert_reserved(Node {
+        let number = self.next;
+        if number == NO_NUMBER {
+            return Err(NoMemory);
+        }
+        let spans = spans_of(*self.log.allocator(), &self.rows, reasons)?;
+        self.restored.reserve(self.log.len() + 1)?;
+        self.log.reserve(1)?;
+        self.firsts.note(&by, number)?;
+        put_number(&mut self.rows, &pair, number)?;
+        self.log.push_reserved(Entry {
+            number,
             pair,
             by,
-            antecedents,
-            dependents: self.emptied.take(),
-            place,
             mark: false,
-            next: 0,
-            lost: 0,
-            slot: 0,
-            at: guessed(at),
+            count: reasons.len(),
+            spans,
         });
-        self.log.push_reserved(key);
+        self.next = number + 1;
         Ok(())
     }
 
@@ -130,22 +100,12 @@ impl ExplainStore {
         self.log.len()
     }
 
-    /// The node of the removal at a place.
-    fn node_at(&self, place: usize) -> &Node
-        requires { place < length self.now.log }
-        ensures pair { slice_get (log_pairs self.now.log) place ≡ Some result.now.pair }
-        ensures by { slice_get (log_bys self.now.log) place ≡ Some result.now.by }
-        ensures reasons { length (reasons_of self.now.log place) ≡ vec_len result.now.antecedents }
-    {
-        &self.nodes[self.log[place] as usize]
-    }
-
     /// The pair of the removal at a place.
     pub fn pair_at(&self, place: usize) -> Pair
         requires { place < length self.now.log }
         ensures { slice_get (log_pairs self.now.log) place ≡ Some result }
     {
-        self.node_at(place).pair
+        self.log[place].pair
     }
 
     /// The constraint that made the removal at a place.
@@ -153,7 +113,7 @@ impl ExplainStore {
         requires { place < length self.now.log }
         ensures { slice_get (log_bys self.now.log) place ≡ Some result }
     {
-        self.node_at(place).by
+        self.log[place].by
     }
 
     /// How many reasons the removal at a place has.
@@ -161,7 +121,7 @@ impl ExplainStore {
         requires { place < length self.now.log }
         ensures { result ≡ length (reasons_of self.now.log place) }
     {
-        self.node_at(place).antecedents.len()
+        self.log[place].count
     }
 
     /// A reason of the removal at a place.
@@ -170,8 +130,8 @@ impl ExplainStore {
         requires index { index < length (reasons_of self.now.log place) }
         ensures { slice_get (reasons_of self.now.log place) index ≡ Some result }
     {
-        let antecedent = self.nodes[self.log[place] as usize].antecedents[index];
-        self.nodes[antecedent as usize].pair
+        let entry = &self.log[place];
+        reason_in(&self.rows, &entry.spans, entry.number, index)
     }
 
     /// The place of a pair's removal.
@@ -180,7 +140,10 @@ impl ExplainStore {
             (Contains (log_pairs self.now.log) pair → ⊥)
             (λ place. slice_get (log_pairs self.now.log) place ≡ Some pair) }
     {
-        place_near(&self.nodes, &self.rows, &pair, &mut 0)
+        match number_of(&self.rows, &pair) {
+            Some(number) if number < NO_NUMBER => Some(place_of(&self.log, number)),
+            _ => None,
+        }
     }
 
     /// Whether the explanation of a removed pair holds the constraint. The removals stay. It takes no memory.
@@ -189,8 +152,9 @@ impl ExplainStore {
         ensures same { self.new ≡ self.old }
         ensures tells { Tells result (NamesOfPair self.old.log pair cid) }
     {
-        let key = key_of(&self.rows, &pair).unwrap();
-        rests_on(&mut self.nodes, &self.log, key, &cid)
+        let number = number_of(&self.rows, &pair).unwrap();
+        let place = place_of(&self.log, number);
+        names_at(&mut self.log, &self.rows, place, &cid)
     }
 
     /// Makes `out` the explanation of a removed pair, by rising id; without memory `out` is empty.
@@ -216,7 +180,7 @@ impl ExplainStore {
     {
         out.clear();
         let alloc = *self.log.allocator();
-        let cids = cids_of(alloc, &self.nodes, &self.log, &self.rows, var, values)?;
+        let cids = cids_of(alloc, &self.log, &self.rows, var, values)?;
         *out = CidList::from_vec(cids);
         Ok(())
     }
@@ -233,7 +197,7 @@ impl ExplainStore {
         ensures err { OnErr result (places.new.items ≡ []) }
     {
         places.clear();
-        let added = add_needed(&self.nodes, &self.log, &self.rows, var, values, places);
+        let added = add_needed(&self.log, &self.rows, var, values, places);
         if added.is_err() {
             places.clear();
         }
@@ -253,30 +217,18 @@ impl ExplainStore {
         ensures within { (p : PairTerm) → Contains (lost_pairs self.old.log self.new.log) p → IsSpanned self.new.restored p }
         ensures ends { AreEnds self.new.restored (lost_pairs self.old.log self.new.log) }
     {
-        let log = self.log.as_slice();
-        let own = self.threads.take(&cid);
-        let first = own.first().copied().unwrap_or(0);
-        let count = mark_lost(&mut self.nodes, log, &own);
-        let start = put_back(
-            &self.nodes,
-            log,
-            first,
-            count,
-            store,
+        let first = self.firsts.take(&cid);
+        let start = place_of(&self.log, first);
+        self.restored.clear();
+        lose_each(
+            &mut self.log,
+            start,
+            &cid,
             &mut self.rows,
             &mut self.restored,
+            store,
         );
-        forget_threads(&mut self.nodes, &mut self.threads, first, count, &cid);
-        let last = close_up(&mut self.nodes, &mut self.log, start);
-        self.losing.clear();
-        forget_lost(&mut self.nodes, &mut self.losing, last, count);
-        remove_lost(
-            &mut self.nodes,
-            &mut self.emptied,
-            &mut self.spare,
-            last,
-            count,
-        );
+        close_up(&mut self.log, start);
     }
 
     /// The variables of which the last withdrawal put values back, each once.

@@ -1,294 +1,104 @@
--- What the hub keeps from one read to the next, and how it ends.
-use Rattle.std.proofs.Common.{◌≡◌, ℕ, ◌+◌, ◌-◌, ◌≤◌, inl, inr, List, [], ◌++◌, flat_map, take, length, Option, Some, None, Err, refl, sym, ap, ◌∙◌, subst, arith, append-nil, length-append, min}
-use Rattle.std.proofs.lemmas.List.{length-take, take_all, take_min, take-take}
+-- What the hub keeps from one piece to the next, and how it ends.
+use Rattle.std.proofs.Common.{◌≡◌, ℕ, ◌≤◌, inl, inr, List, [], ◌++◌, flat_map, length, IfErr, OnOk, Result, Ok, Err, refl, sym, ap, ◌∙◌, subst, arith}
 use Rattle.std.proofs.lemmas.List.Elements.{All-nil}
-use Rattle.std.proofs.Math.Seq.{take-append-add, take-append_seam}
-use Rattle.palm_base.specs.Streams.{Consumes, IsAtEnd, Rose, SinkState}
-use Rattle.palm_base.proofs.cited.StreamLemmas.{consumes_both, consumes_nothing}
-use Rattle.palm_lang.specs.Writing.{HasStopCause}
+use Rattle.palm_base.specs.Streams.{Consumes, Rose, SinkState}
 use Rattle.palm_lang.specs.declared.stop.WriteStop.{WriteStop as Stop}
 use Rattle.palm_lang.specs.declared.stop.WriteStop.TheVariants as stops
+use Rattle.palm_pump.proofs.cited.Mapped.{pumps_told}
+use Rattle.palm_pump.proofs.cited.TakenBytes.{rose_after, told_once}
+use Rattle.palm_pump.specs.Pumping.{Begins, Pumps}
+use Rattle.palm_pump.specs.Streams.{HasNoFault, Streams, TakesOver}
+use Rattle.palm_pump.specs.Taking.{Progress, last_progress_of}
+use Rattle.palm_pump.specs.Taking.Progress.{More, Enough, Whole, Until, WholeUntil}
+use Rattle.palm_pump.specs.declared.ending.PumpEnd.{PumpEnd}
+use Rattle.palm_pump.specs.declared.ending.PumpEnd.TheVariants as ends
+use Rattle.palm_pump.specs.declared.limits.TheConstants.{MOST_INPUT_BYTES}
+use Rattle.palm_read.specs.Lines.{HasNoFeed}
 use Rattle.palm_hub.specs.Hub.{Opened, output_of}
-use Rattle.palm_hub.specs.Serving.{IsAll, IsCut, Pumps, PumpsFault, PumpsLast, PumpsLastUntil, PumpsPiece, PumpsTo, PumpsUntil, Serves, ServesAll, ServesPart, ServesToFault, ServesToNoMemory, ServesToWriteFault, Streams, TakesOver, first_bytes, status_of}
-use Rattle.palm_hub.specs.Standing.{AnswersLastUntil, AnswersLines, AnswersUntil, HubView, StandsBehind}
-use Rattle.palm_hub.specs.declared.limits.TheConstants.{MOST_INPUT_BYTES}
+use Rattle.palm_hub.specs.Numbers.{status_of}
+use Rattle.palm_hub.specs.Serving.{Answering, IsCut, IsWhole, Serves, ServesTo, TakesLines, TakesWithin}
+use Rattle.palm_hub.specs.Standing.{AnswersLast, AnswersLastUntil, AnswersLines, AnswersUntil, HubView, StandsBehind}
 use Rattle.palm_hub.specs.declared.status.HubStatus.{HubStatus}
 use Rattle.palm_hub.specs.declared.status.HubStatus.TheVariants.{Done, Usage, ReadFault, WriteFault, NoMemory, TooLong}
 use Rattle.palm_hub.proofs.Apart.{hub_replies}
 use Rattle.palm_hub.proofs.Running.{lines_last, lines_last_until, lines_none, lines_then, lines_until, until_none}
 
--- ---- streams
-
--- a count that stood, and then rose
-rose_after : (a b c : ℕ) → b ≡ a → Rose b c → Rose a c
-rose_after a b c e r = subst (λ (n : ℕ). Rose n c) e r
-
--- bytes were taken, and then no more
-takes_no_more : (a b c : Option (List ℕ)) (text : List ℕ) → Consumes a b text → Consumes b c [] → Consumes a c text
-takes_no_more a b c text t u = subst (λ (z : List ℕ). Consumes a c z) (append-nil text) (consumes_both a b c text [] t u)
-
--- what was taken up to the end is all that was left
-all_left : (left mid : Option (List ℕ)) (text : List ℕ) → Consumes left mid text → IsAtEnd mid → IsAll left text
-all_left None mid text t e = tt
-all_left (Some l) None text t e = absurd t
-all_left (Some l) (Some n) text t e = t ∙ ap (λ (z : List ℕ). text ++ z) e ∙ append-nil text
-
--- where the source tells its bytes, it is known which were taken
-taken_once : (left : List ℕ) (now : Option (List ℕ)) (a b : List ℕ) → Consumes (Some left) now a → Consumes (Some left) now b → a ≡ b
-taken_once left None a b t u = absurd t
-taken_once left (Some n) a b t u =
-    let la : length left ≡ length a + length n = ap length t ∙ length-append a n in
-    let lb : length left ≡ length b + length n = ap length u ∙ length-append b n in
-    let same : length a ≡ length b = omega (arith, la, lb) in
-    sym (take-append_seam a n) ∙ ap (λ (z : List ℕ). take (length a) z) (sym t ∙ u)
-    ∙ ap (λ (k : ℕ). take k (b ++ n)) same ∙ take-append_seam b n
-
-told_once : (before after : Option (List ℕ)) (left a b : List ℕ) → before ≡ Some left → Consumes before after a → Consumes before after b
-    → a ≡ b
-told_once before after left a b told t u =
-    taken_once left after a b (subst (λ (z : Option (List ℕ)). Consumes z after a) told t)
-    (subst (λ (z : Option (List ℕ)). Consumes z after b) told u)
-
--- ---- one read
-
--- the bytes that are passed on of a piece, which was read into the front of a buffer, are the first ones of it
-fed_piece : (room count fed : ℕ) (seen buffer : List ℕ) → fed ≡ min count room → count ≤ length buffer
-    → seen ++ take fed buffer ≡ seen ++ take room (take count buffer)
-fed_piece room count fed seen buffer is fits =
-    let piece : List ℕ = take count buffer in
-    let same : fed ≡ min room (length piece) = omega (arith, is, length-take count buffer, fits) in
-    ap (λ (z : List ℕ). seen ++ z)
-    (sym (take-take fed count buffer (omega (arith, is))) ∙ ap (λ (k : ℕ). take k piece) same ∙ take_min room piece)
-
--- by the status of the stop
-stopped : {G O : Type 0} (stop : Stop) (sessions : List Opened) (seen : List ℕ) (room : ℕ) (before now : Streams) (hub : HubView G O)
-    → PumpsTo stop sessions seen room before now → Pumps sessions seen room before now hub (Err (status_of stop))
-stopped stops.WriteFault sessions seen room before now hub p = p
-stopped stops.NoMemory sessions seen room before now hub p = p
-
--- bytes were read into the front of a buffer
-module _ {G O : Type 0} (sessions : List Opened) (seen : List ℕ) (room count : ℕ) (buffer : List ℕ) (before now : Streams) (hub : HubView G O)
-    (fits : count ≤ length buffer) (takes : Consumes before.source.left now.source.left (take count buffer)) (calm : now.source.faults ≡ before.source.faults) where
-  -- and the lines that the first of them complete were answered
-  pub pumps_piece : (fed : ℕ) (rest : List ℕ) (among : List Opened) → fed ≡ min count room → now.sink.faults ≡ before.sink.faults
-      → AnswersLines sessions (seen ++ take fed buffer) before.sink.written now.sink.written rest among → StandsBehind among rest hub
-      → PumpsPiece sessions seen room count before now hub
-  pumps_piece fed rest among is write answers stands = record {
-    piece = take count buffer;
-    rest = rest;
-    among = among;
-    long = omega (arith, length-take count buffer, fits);
-    takes = takes;
-    answers = subst (λ (z : List ℕ). AnswersLines sessions z before.sink.written now.sink.written rest among)
-        (fed_piece room count fed seen buffer is fits) answers;
-    stands = stands;
-    calm_source = calm;
-    calm_sink = write;
-  }
-
-  -- and the answers to their lines stopped
-  pub pumps_until : (stop : Stop) (fed : ℕ) → fed ≡ min count room → HasStopCause before.sink.faults now.sink.faults stop
-      → ((stop ≡ stops.NoMemory → Rose before.sink.faults now.sink.faults → ⊥)
-      → AnswersUntil stop sessions (seen ++ take fed buffer) before.sink.written now.sink.written)
-      → Pumps sessions seen room before now hub (Err (status_of stop))
-  pumps_until stop fed is cause answers = stopped stop sessions seen room before now hub (inl (record {
-    piece = take count buffer;
-    takes = takes;
-    answers = λ none. subst (λ (z : List ℕ). AnswersUntil stop sessions z before.sink.written now.sink.written)
-        (fed_piece room count fed seen buffer is fits) (answers none);
-    calm_source = calm;
-    cause = cause;
-  }))
-
-  -- or none at the end, and the answer to a last line stopped
-  pub pumps_last_until : (stop : Stop) → count ≡ 0 → (count ≡ 0 → IsAtEnd before.source.left)
-      → HasStopCause before.sink.faults now.sink.faults stop
-      → ((stop ≡ stops.NoMemory → Rose before.sink.faults now.sink.faults → ⊥)
-      → AnswersLastUntil stop sessions seen before.sink.written now.sink.written)
-      → Pumps sessions seen room before now hub (Err (status_of stop))
-  pumps_last_until stop none ends cause answers = stopped stop sessions seen room before now hub (inr (record {
-    takes = subst (λ (k : ℕ). Consumes before.source.left now.source.left (take k buffer)) none takes;
-    at_end = ends none;
-    answers = answers;
-    calm_source = calm;
-    cause = cause;
-  }))
-
--- ---- what is kept
-
--- so many bytes were taken without a fault; the hub was passed the first of them, as many as can be answered, and the lines
--- that they complete were answered
-pub record Served {G O : Type 0} (before now : Streams) (taken : ℕ) (hub : HubView G O) : Type 0 where
-  pub text : List ℕ
-  pub rest : List ℕ
-  pub sessions : List Opened
-  pub long : length text ≡ taken
-  pub takes : Consumes before.source.left now.source.left text
-  pub answers : AnswersLines [] (first_bytes text) before.sink.written now.sink.written rest sessions
-  pub stands : StandsBehind sessions rest hub
-  pub calm_source : now.source.faults ≡ before.source.faults
-  pub calm_sink : now.sink.faults ≡ before.sink.faults
-
 -- nothing was taken yet
-pub served_nothing : {G O : Type 0} (before : Streams) (hub : HubView G O) → StandsBehind [] [] hub → Served before before 0 hub
-served_nothing before hub stands = record {
-  text = [];
-  rest = [];
-  sessions = [];
-  long = refl;
-  takes = consumes_nothing before.source.left;
-  answers = lines_none [] [] before.sink.written (All-nil (λ (b : ℕ). b ≡ 10 → ⊥));
-  stands = stands;
-  calm_source = refl;
-  calm_sink = refl;
+pub begins : {G O : Type 0} (sink : SinkState) (hub : HubView G O) → StandsBehind [] [] hub → Begins TakesLines sink hub
+begins sink hub stands = record {
+  going = (refl, [], [], lines_none [] [] sink.written (All-nil (λ (b : ℕ). b ≡ 10 → ⊥)), stands);
+  wanting = λ none. until_none [] [] sink.written;
 }
 
--- memory ran out before anything was read
-pub wants_at_once : (before : Streams) → Serves before before NoMemory
-wants_at_once before = record {
-  text = [];
-  takes = consumes_nothing before.source.left;
-  part = λ none. inl (until_none [] [] before.sink.written);
-  calm_source = refl;
-  calm_sink = refl;
-}
+-- ---- one more piece, or the end
 
--- ---- one more read
+module _ {G O : Type 0} (seen : List ℕ) (start before after : SinkState) (hub later : HubView G O) (s : TakesLines More seen start before hub) where
+  -- a stop is known of what came here, where it is known of what came since the start
+  since : {stop : Stop} → (stop ≡ stops.NoMemory → Rose start.faults after.faults → ⊥) → stop ≡ stops.NoMemory → Rose before.faults after.faults → ⊥
+  since none is rose = none is (rose_after start.faults before.faults after.faults s.0 rose)
 
--- the first bytes of a text within the limit are all of it
-whole_text : (text : List ℕ) (taken : ℕ) → length text ≡ taken → taken ≤ MOST_INPUT_BYTES → first_bytes text ≡ text
-whole_text text taken e le = take_all MOST_INPUT_BYTES text (omega (arith, e, le))
+  pub takes_more : (piece : List ℕ) → after.faults ≡ before.faults
+      → ((hub_sessions : List Opened) (bytes : List ℕ) → HasNoFeed bytes → StandsBehind hub_sessions bytes hub
+      → (left : List ℕ) × (among : List Opened) × AnswersLines hub_sessions (bytes ++ piece) before.written after.written left among × StandsBehind among left later)
+      → TakesLines More (seen ++ piece) start after later
+  takes_more piece calm answers =
+      let a = answers s.1 s.2 s.3.cuts.unfinished s.4 in
+      (calm ∙ s.0, a.1, a.0, lines_then [] s.1 a.1 seen piece s.2 a.0 start.written before.written after.written s.3 a.2, a.3)
 
--- those of a longer text are this text, and the first ones of what came
-fed_text : (text piece : List ℕ) (taken : ℕ) → length text ≡ taken → taken ≤ MOST_INPUT_BYTES
-    → first_bytes text ++ take (MOST_INPUT_BYTES - taken) piece ≡ first_bytes (text ++ piece)
-fed_text text piece taken e le =
-    let m : length text + (MOST_INPUT_BYTES - taken) ≡ MOST_INPUT_BYTES = omega (arith, e, le) in
-    ap (λ (z : List ℕ). z ++ take (MOST_INPUT_BYTES - taken) piece) (whole_text text taken e le)
-    ∙ sym (take-append-add text piece (MOST_INPUT_BYTES - taken)) ∙ ap (λ (k : ℕ). take k (text ++ piece)) m
+  pub takes_until : (stop : Stop) (piece : List ℕ)
+      → ((hub_sessions : List Opened) (bytes : List ℕ) → HasNoFeed bytes → StandsBehind hub_sessions bytes hub
+      → (stop ≡ stops.NoMemory → Rose before.faults after.faults → ⊥) → AnswersUntil stop hub_sessions (bytes ++ piece) before.written after.written)
+      → TakesLines (Until stop) (seen ++ piece) start after later
+  takes_until stop piece answers = λ none.
+      lines_until stop [] s.1 seen piece s.2 start.written before.written after.written s.3 (answers s.1 s.2 s.3.cuts.unfinished s.4 (since none))
 
-module _ {G O : Type 0} (before mid now : Streams) (taken : ℕ) (hub : HubView G O) (s : Served before mid taken hub) (le : taken ≤ MOST_INPUT_BYTES) where
-  -- one more piece was read, and the lines that it completes were answered
-  pub served_more : (count : ℕ) (later : HubView G O) → PumpsPiece s.sessions s.rest (MOST_INPUT_BYTES - taken) count mid now later
-      → Served before now (taken + count) later
-  served_more count later p = record {
-    text = s.text ++ p.piece;
-    rest = p.rest;
-    sessions = p.among;
-    long = omega (arith, length-append s.text p.piece, s.long, p.long);
-    takes = consumes_both before.source.left mid.source.left now.source.left s.text p.piece s.takes p.takes;
-    answers = subst (λ (z : List ℕ). AnswersLines [] z before.sink.written now.sink.written p.rest p.among)
-        (fed_text s.text p.piece taken s.long le)
-        (lines_then [] s.sessions p.among (first_bytes s.text) (take (MOST_INPUT_BYTES - taken) p.piece) s.rest p.rest
-        before.sink.written mid.sink.written now.sink.written s.answers p.answers);
-    stands = p.stands;
-    calm_source = p.calm_source ∙ s.calm_source;
-    calm_sink = p.calm_sink ∙ s.calm_sink;
-  }
+  pub takes_end : {A : Type 0} (result : Result A Stop)
+      → OnOk result ((hub_sessions : List Opened) (bytes : List ℕ) → HasNoFeed bytes → StandsBehind hub_sessions bytes hub
+      → AnswersLast hub_sessions bytes before.written after.written)
+      → IfErr result (λ stop. (hub_sessions : List Opened) (bytes : List ℕ) → HasNoFeed bytes → StandsBehind hub_sessions bytes hub
+      → (stop ≡ stops.NoMemory → Rose before.faults after.faults → ⊥) → AnswersLastUntil stop hub_sessions bytes before.written after.written)
+      → TakesLines (last_progress_of result) seen start after later
+  takes_end (Ok answer) answers stopped =
+      let a = answers s.1 s.2 s.3.cuts.unfinished s.4 in
+      let run = lines_last [] s.1 seen s.2 start.written before.written after.written s.3 a in
+      (flat_map output_of run.1, hub_replies seen (flat_map output_of run.1) run.0 run.1 a.after run.2 run.3 refl, run.4)
+  takes_end (Err stop) answers stopped = λ none.
+      lines_last_until stop [] s.1 seen s.2 start.written before.written after.written s.3 (stopped s.1 s.2 s.3.cuts.unfinished s.4 (since none))
 
-  -- all bytes so far were within the limit
-  whole_answers : AnswersLines [] s.text before.sink.written mid.sink.written s.rest s.sessions
-  whole_answers =
-      subst (λ (z : List ℕ). AnswersLines [] z before.sink.written mid.sink.written s.rest s.sessions) (whole_text s.text taken s.long le) s.answers
+-- ---- the end
 
-  -- the end was read
-  serves_all : PumpsLast s.sessions s.rest mid now → ServesAll before now
-  serves_all p =
-      let run = lines_last [] s.sessions s.text s.rest before.sink.written mid.sink.written now.sink.written whole_answers p.answers in
-      record {
-        text = s.text;
-        output = flat_map output_of run.1;
-        takes = takes_no_more before.source.left mid.source.left now.source.left s.text s.takes p.takes;
-        short = omega (arith, s.long, le);
-        whole = all_left before.source.left mid.source.left s.text s.takes p.at_end;
-        replies = hub_replies s.text (flat_map output_of run.1) run.0 run.1 p.answers.after run.2 run.3 refl;
-        written = run.4;
-        calm_source = p.calm_source ∙ s.calm_source;
-        calm_sink = p.calm_sink ∙ s.calm_sink;
-      }
+answering : {G O : Type 0} (progress : Progress) (text : List ℕ) (before after : SinkState) (hub : HubView G O)
+    → TakesLines progress text before after hub → Answering {T = Unit {0}} progress text before after tt
+answering More text before after hub s = (s.1, s.2, s.3)
+answering Enough text before after hub s = s
+answering Whole text before after hub s = s
+answering (Until stop) text before after hub s = s
+answering (WholeUntil stop) text before after hub s = s
 
-  -- a read failed
-  serves_to_fault : PumpsFault mid now → ServesToFault before now
-  serves_to_fault p = record {
-    text = s.text;
-    rest = s.rest;
-    sessions = s.sessions;
-    takes = takes_no_more before.source.left mid.source.left now.source.left s.text s.takes p.takes;
-    short = omega (arith, s.long, le);
-    answers = subst (λ (k : SinkState). AnswersLines [] s.text before.sink.written k.written s.rest s.sessions) (sym p.sink) whole_answers;
-    rose = rose_after before.source.faults mid.source.faults now.source.faults s.calm_source p.rose;
-    calm_sink = ap (λ (k : SinkState). k.faults) p.sink ∙ s.calm_sink;
-  }
+-- by the status of the end
+by_status : (before after : Streams) (end : PumpEnd) → ServesTo end before after → Serves before after (status_of end)
+by_status before after ends.Done s = s
+by_status before after ends.ReadFault s = s
+by_status before after ends.WriteFault s = s
+by_status before after ends.NoMemory s = s
+by_status before after ends.TooLong s = s
 
-  -- the answers to the lines of a piece stopped
-  part_until : {stop : Stop} (p : PumpsUntil stop s.sessions s.rest (MOST_INPUT_BYTES - taken) mid now)
-      → (stop ≡ stops.NoMemory → Rose mid.sink.faults now.sink.faults → ⊥) → ServesPart stop before now (s.text ++ p.piece)
-  part_until {stop = stop} p none =
-      inl (subst (λ (z : List ℕ). AnswersUntil stop [] z before.sink.written now.sink.written) (fed_text s.text p.piece taken s.long le)
-      (lines_until stop [] s.sessions (first_bytes s.text) (take (MOST_INPUT_BYTES - taken) p.piece) s.rest
-      before.sink.written mid.sink.written now.sink.written s.answers (p.answers none)))
+pub serves : {T G O : Type 0} (taker : T) (hub_of : T → HubView G O) (before after : Streams) (end : PumpEnd) (status : HubStatus) → status ≡ status_of end
+    → Pumps (λ progress text b a now. TakesLines progress text b a (hub_of now)) before after taker end → Serves before after status
+serves taker hub_of before after end status is pumps =
+    subst (Serves before after) (sym is) (by_status before after end
+    (pumps_told (λ now. tt) (λ progress text b a now. TakesLines progress text b a (hub_of now)) Answering
+    (λ progress text b a now. answering progress text b a (hub_of now)) before after taker end pumps))
 
-  -- or the answer to a last line
-  part_last : {stop : Stop} → PumpsLastUntil stop s.sessions s.rest mid now
-      → (stop ≡ stops.NoMemory → Rose mid.sink.faults now.sink.faults → ⊥) → ServesPart stop before now s.text
-  part_last {stop = stop} p none = inr (record {
-    short = omega (arith, s.long, le);
-    all = all_left before.source.left mid.source.left s.text s.takes p.at_end;
-    answers = lines_last_until stop [] s.sessions s.text s.rest before.sink.written mid.sink.written now.sink.written
-        whole_answers (p.answers none);
-  })
-
-  -- since a write failed
-  serves_to_write_fault : PumpsTo stops.WriteFault s.sessions s.rest (MOST_INPUT_BYTES - taken) mid now → ServesToWriteFault before now
-  serves_to_write_fault pumps =
-      let other : stops.WriteFault ≡ stops.NoMemory → ⊥ = λ e. cc in
-      elim pumps [
-        | inl p ↦ record {
-          text = s.text ++ p.piece;
-          takes = consumes_both before.source.left mid.source.left now.source.left s.text p.piece s.takes p.takes;
-          part = part_until p (λ e rose. other e);
-          calm_source = p.calm_source ∙ s.calm_source;
-          rose = rose_after before.sink.faults mid.sink.faults now.sink.faults s.calm_sink p.cause.1;
-        }
-        | inr p ↦ record {
-          text = s.text;
-          takes = takes_no_more before.source.left mid.source.left now.source.left s.text s.takes p.takes;
-          part = part_last p (λ e rose. other e);
-          calm_source = p.calm_source ∙ s.calm_source;
-          rose = rose_after before.sink.faults mid.sink.faults now.sink.faults s.calm_sink p.cause.1;
-        }
-      ]
-
-  -- since memory ran out
-  serves_to_no_memory : PumpsTo stops.NoMemory s.sessions s.rest (MOST_INPUT_BYTES - taken) mid now → ServesToNoMemory before now
-  serves_to_no_memory pumps =
-      let since = rose_after before.sink.faults mid.sink.faults now.sink.faults s.calm_sink in
-      elim pumps [
-        | inl p ↦ record {
-          text = s.text ++ p.piece;
-          takes = consumes_both before.source.left mid.source.left now.source.left s.text p.piece s.takes p.takes;
-          part = λ none. part_until p (λ e rose. none (since rose));
-          calm_source = p.calm_source ∙ s.calm_source;
-          calm_sink = p.cause ∙ s.calm_sink;
-        }
-        | inr p ↦ record {
-          text = s.text;
-          takes = takes_no_more before.source.left mid.source.left now.source.left s.text s.takes p.takes;
-          part = λ none. part_last p (λ e rose. none (since rose));
-          calm_source = p.calm_source ∙ s.calm_source;
-          calm_sink = p.cause ∙ s.calm_sink;
-        }
-      ]
-
-  -- the read was the last one
-  pub serves_last : (status : HubStatus) (later : HubView G O) → Pumps s.sessions s.rest (MOST_INPUT_BYTES - taken) mid now later (Err status)
-      → Serves before now status
-  serves_last Done later p = serves_all p
-  serves_last Usage later p = p
-  serves_last ReadFault later p = serves_to_fault p
-  serves_last WriteFault later p = serves_to_write_fault p
-  serves_last NoMemory later p = serves_to_no_memory p
-  serves_last TooLong later p = absurd p
+-- without a fault, an input within the limit is answered whole
+pub whole_status : (before after : Streams) (status : HubStatus) → Serves before after status → HasNoFault before after → TakesWithin before after
+    → IsWhole status
+whole_status before after Done s none within = tt
+whole_status before after Usage s none within = s
+whole_status before after ReadFault s none within = none.read s.0.read
+whole_status before after WriteFault s none within = none.write s.0.write
+whole_status before after NoMemory s none within = tt
+whole_status before after TooLong s none within = absurd (omega (arith, s.2, within s.1.text s.1.taken))
 
 -- more bytes than can be answered are told to be too many
 pub cut_status : (before after : Streams) (status : HubStatus) → Serves before after status → TakesOver before after
@@ -301,9 +111,10 @@ cut_status before after status s over none = go status s
         omega (arith, ap length (told_once before.source.left after.source.left over.left text over.text over.tells takes over.takes), short, over.long)
 
     go : (end : HubStatus) → Serves before after end → IsCut end
-    go Done s = within s.text s.takes s.short
+    go Done (calm, inl s) = within s.text s.taken s.short
+    go Done (calm, inr s) = absurd s.does
     go Usage s = s
-    go ReadFault s = within s.text s.takes s.short
-    go WriteFault s = none s.rose
+    go ReadFault s = within s.1.text s.1.taken s.2
+    go WriteFault s = none s.0.write
     go NoMemory s = tt
     go TooLong s = tt

@@ -1,7 +1,8 @@
 //! What the program does with what its host gives it: words and streams in, a status out.
 ghost use Rattle.std.specs.Prelude.{◌≡◌};
 ghost use Rattle.palm_hub.specs.Host.{HasNoWord, HasWord, LacksMemory};
-ghost use Rattle.palm_hub.specs.Serving.{Refuses, Serves, streams};
+ghost use Rattle.palm_pump.specs.Streams.{streams};
+ghost use Rattle.palm_hub.specs.Serving.{Refuses, Serves};
 ghost use Rattle.palm_hub.specs.declared.status.HubStatus.TheVariants as statuses;
 
 use crate::serving::{hub, refuse};

@@ -4,11 +4,10 @@ ghost use Rattle.palm_read.specs.Lines.{HasNoFeed};
 ghost use Rattle.palm_session.specs.Replies.{Replies};
 ghost use Rattle.palm_hub.specs.Hub.{HubAnswers, HubReplies, HubRun, Opened, Outcome, replies_of, text_of};
 
-use crate::limits::{MOST_INPUT_BYTES, MOST_SESSIONS};
+use crate::limits::MOST_SESSIONS;
 
-/// The numbers of the limits.
+/// The number of the limit.
 pub fn limits_are_these_numbers()
-    ensures input { MOST_INPUT_BYTES ≡ 16777216 }
     ensures sessions { MOST_SESSIONS ≡ 16 }
 {}
 

@@ -20,7 +20,7 @@ pub use laws::{
     an_input_has_an_output, an_input_has_one_output, each_hub_line_has_one_outcome,
     limits_are_these_numbers, names_have_the_same_replies, sessions_are_apart,
 };
-pub use limits::{MOST_INPUT_BYTES, MOST_SESSIONS};
+pub use limits::MOST_SESSIONS;
 pub use prefix::{PrefixSink, Start};
 pub use serving::hub;
 pub use status::HubStatus;

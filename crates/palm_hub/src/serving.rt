@@ -1,18 +1,42 @@
 //! Hub lines in, and replies out.
-ghost use Rattle.std.specs.Prelude.{◌≡◌, ◌≢◌, ◌<◌, ◌≤◌, ℕ, [], List, IfOk, length};
+ghost use Rattle.std.specs.Prelude.{◌≡◌, ◌≢◌, ◌<◌, []};
 ghost use Rattle.palm_base.specs.Streams.{Rose, SourceState};
-ghost use Rattle.palm_read.specs.Lines.{HasNoFeed};
-ghost use Rattle.palm_hub.specs.Hub.{Opened};
-ghost use Rattle.palm_hub.specs.Serving.{HasNoFault, IsCut, IsWhole, Pumps, Refuses, Serves, TakesOver, TakesWithin, streams};
-ghost use Rattle.palm_hub.specs.Standing.{StandsBehind};
+ghost use Rattle.palm_pump.specs.Streams.{HasNoFault, TakesOver, streams};
+ghost use Rattle.palm_hub.specs.Serving.{IsCut, IsWhole, Refuses, Serves, TakesWithin};
 
-use crate::limits::{MOST_INPUT_BYTES, PIECE};
 use crate::standing::Hub;
 use crate::status::HubStatus;
 use palm_base::{Failed, Sink, Source, Steps, write_all};
+use palm_pump::{Taker, pump};
+use palm_session::Stop;
 use std::alloc::Global;
 use std::marker::Brand;
 use std::sync::ledger::{Blank, Ledger};
+
+/// A hub that takes the bytes, and the counter of its sessions' questions.
+#[derive(Drop)]
+struct HubTaker<L: Ledger> {
+    alloc: Global,
+    hub: Hub,
+    steps: Steps<L>,
+}
+
+impl<L: Ledger> Taker for HubTaker<L> {
+    ghost use Rattle.palm_hub.specs.Serving.{TakesLines};
+
+    ghost takes = { λ first progress text before after now. TakesLines progress text before after now.hub };
+
+    fn take<K: Sink>(&mut self, piece: &[u8], sink: &mut K) -> Result<bool, Stop> {
+        match self.hub.feed(self.alloc, piece, sink, &mut self.steps) {
+            Ok(()) => Ok(true),
+            Err(stop) => Err(stop),
+        }
+    }
+
+    fn finish<K: Sink>(&mut self, sink: &mut K) -> Result<(), Stop> {
+        self.hub.finish(self.alloc, sink, &mut self.steps)
+    }
+}
 
 /// Answers the hub lines of the source one by one. There are no words to say after the program's name.
 pub fn hub<S: Source, K: Sink>(
@@ -41,8 +65,7 @@ pub fn hub<S: Source, K: Sink>(
     }
 }
 
-/// Reads the source in pieces, to its end or until too much was read, and answers each line before the next read. The
-/// sessions count their questions by one counter.
+/// Answers the lines that are read by a hub without sessions. The sessions that it opens count their questions by one counter.
 fn serve<S: Source, K: Sink, L: Ledger>(
     alloc: Global,
     source: &mut S,
@@ -54,54 +77,12 @@ fn serve<S: Source, K: Sink, L: Ledger>(
     requires shared { 0 < L.parts }
     ensures { Serves (streams (S.state source.old) (K.state sink.old)) (streams (S.state source.new) (K.state sink.new)) result }
 {
-    let mut steps = Steps::<L>::start(blank);
-    let Ok(mut buffer) = vec![in alloc; 0u8; PIECE] else {
-        return HubStatus::NoMemory;
+    let mut taker = HubTaker {
+        alloc,
+        hub: Hub::new(alloc),
+        steps: Steps::<L>::start(blank),
     };
-    let mut hub = Hub::new(alloc);
-    let mut taken = 0;
-    while taken <= MOST_INPUT_BYTES {
-        match pump(
-            &mut hub,
-            alloc,
-            source,
-            &mut buffer,
-            sink,
-            &mut steps,
-            MOST_INPUT_BYTES - taken,
-        ) {
-            Ok(count) => taken += count,
-            Err(status) => return status,
-        }
-    }
-    HubStatus::TooLong
-}
-
-/// Reads once, and answers the lines that the first bytes of the piece complete, as many bytes as there is room for.
-/// It tells how many bytes were read, or how the hub ends there.
-fn pump<S: Source, K: Sink, L: Ledger>(
-    hub: &mut Hub,
-    alloc: Global,
-    source: &mut S,
-    buffer: &mut [u8],
-    sink: &mut K,
-    steps: &mut Steps<L>,
-    room: usize,
-) -> Result<usize, HubStatus>
-    requires { length buffer.old ≡ PIECE }
-    ensures some { IfOk result (λ count. (0 < count) × (count ≤ PIECE)) }
-    ensures pumps { (sessions : List Opened) (seen : List ℕ) → HasNoFeed seen → StandsBehind sessions seen hub.old
-        → Pumps sessions seen room (streams (S.state source.old) (K.state sink.old)) (streams (S.state source.new) (K.state sink.new)) hub.new result }
-{
-    let Ok(count) = source.read(buffer) else {
-        return Err(HubStatus::ReadFault);
-    };
-    if count == 0 {
-        hub.finish(alloc, sink, steps)?;
-        return Err(HubStatus::Done);
-    }
-    hub.feed(alloc, &buffer[..count.min(room)], sink, steps)?;
-    Ok(count)
+    HubStatus::from(pump(alloc, &mut taker, source, sink))
 }
 
 /// Writes the usage line.

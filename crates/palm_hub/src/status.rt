@@ -1,5 +1,5 @@
 //! How a hub ends.
-use palm_session::Stop;
+use palm_pump::PumpEnd;
 
 /// How a hub ends, and the process with it.
 #[derive(Clone, Copy, Debug, PartialEq, Eq)]
@@ -37,16 +37,19 @@ impl HubStatus {
     }
 }
 
-impl From<Stop> for HubStatus {
+impl From<PumpEnd> for HubStatus {
     ghost use Rattle.std.specs.Prelude.{◌≡◌};
-    ghost use Rattle.palm_hub.specs.Serving.{status_of};
+    ghost use Rattle.palm_hub.specs.Numbers.{status_of};
 
-    ghost from_gives = { λ stop status. status ≡ status_of stop };
+    ghost from_gives = { λ end status. status ≡ status_of end };
 
-    fn from(stop: Stop) -> HubStatus {
-        match stop {
-            Stop::WriteFault => HubStatus::WriteFault,
-            Stop::NoMemory => HubStatus::NoMemory,
+    fn from(end: PumpEnd) -> HubStatus {
+        match end {
+            PumpEnd::Done => HubStatus::Done,
+            PumpEnd::ReadFault => HubStatus::ReadFault,
+            PumpEnd::WriteFault => HubStatus::WriteFault,
+            PumpEnd::NoMemory => HubStatus::NoMemory,
+            PumpEnd::TooLong => HubStatus::TooLong,
         }
     }
 }

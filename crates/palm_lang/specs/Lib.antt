@@ -1,3 +1,4 @@
 pub mod Print
 pub mod Reply
+pub mod Writer
 pub mod Writing

@@ -23,4 +23,4 @@ pub use print::{
 };
 pub use reply::{Fixed, Lead, Refusal};
 pub use stop::WriteStop;
-pub use writer::{write_fixed, write_text, write_var};
+pub use writer::{Writer, write_text};

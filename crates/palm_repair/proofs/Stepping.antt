@@ -19,7 +19,11 @@ use Rattle.palm_base.proofs.cited.CidOrder.{not_before_itself}
 use Rattle.palm_search.specs.declared.turn.Pick.{Pick}
 use Rattle.palm_search.specs.declared.turn.Turn.{Turn}
 use Rattle.palm_search.specs.declared.turn.Turn.TheVariants.{Decide as TurnDecide, Undo as TurnUndo}
+use Rattle.palm_search.specs.declared.machine.Machine.{Machine}
 use Rattle.palm_search.specs.Calls.{SearchView, TakesBack, TakesTurn, search_state}
+use Rattle.palm_search.specs.Kept.{HasDecisions}
+use Rattle.palm_search.specs.Machine.{KeepsDecisions, state_of}
+use Rattle.palm_search.specs.Turning.{Hears}
 use Rattle.palm_search.specs.Turns.{HasFlatConflict, decided_vars}
 use Rattle.palm_search.proofs.cited.Going.{vars_member}
 use Rattle.palm_search.proofs.cited.Showing.{at_drop, split_place}
@@ -277,3 +281,25 @@ undone_by tabu e m before after learned conflict found k weights decisions cids 
     undone_here tabu (length before.journal) e m before after learned conflict k back ready flat
     (subst (λ l. IsHeaviestAt (raised learned.weights (decided_vars conflict)) before.decisions l k) en
     (subst (λ l. IsHeaviestAt (raised learned.weights (decided_vars conflict)) l cids k) ed (subst (λ l. IsHeaviestAt l decisions cids k) ew here)))
+
+-- ---- over a machine
+
+-- who is told is there afterwards
+pub hears_stays : {G : Type 0} (hears : G → List ℕ → List ℕ → Type 0) (state : G → List ℕ) (vars : List ℕ) (before after : Option G) → Hears hears state vars before after → is_some after ≡ is_some before
+hears_stays hears state vars None None h = refl
+hears_stays hears state vars None (Some a) h = absurd h
+hears_stays hears state vars (Some b) None h = absurd h
+hears_stays hears state vars (Some b) (Some a) h = refl
+
+-- where nothing was done
+pub same_keeps : {F G O L : Type 0} {m : Machine F G O L} → HasDecisions (state_of m) → KeepsDecisions m m
+same_keeps has = record {
+  quiet = record {
+    holds = record { engine = refl; search = refl; guide = refl; order = refl; steps = refl };
+    order = refl;
+    steps = refl;
+    counts = record { revisions = refl; checks = refl };
+    stays = refl;
+  };
+  decisions = has;
+}

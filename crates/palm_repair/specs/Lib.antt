@@ -2,6 +2,7 @@ pub mod Answers
 pub mod Following
 pub mod Kept
 pub mod Learned
+pub mod Machine
 pub mod Posting
 pub mod Repair
 pub mod Sets

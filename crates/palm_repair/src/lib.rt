@@ -19,4 +19,4 @@ pub use laws::{
     repairs_without_guide_and_order_are_unique, settlings_keep_repairing, turns_keep_repairing,
     turns_with_settlings_keep_repairing, users_of_no_solution_have_none,
 };
-pub use whole::repair;
+pub use whole::{repair, repair_by};

@@ -2,10 +2,10 @@
 ghost use Rattle.std.specs.Prelude.{◌≡◌, ◌<◌, [], IfOk, OnErr, is_some};
 ghost use Rattle.palm_model.specs.State.{IsValid};
 ghost use Rattle.palm_engine.specs.Following.{OrderAnswers, OrderFollows};
-ghost use Rattle.palm_search.specs.Calls.{search_state};
 ghost use Rattle.palm_search.specs.Following.{GuideFollows};
 ghost use Rattle.palm_search.specs.Kept.{HasDecisions, HasOnlyUsers};
 ghost use Rattle.palm_search.specs.Leaves.{Counts, Leaves, Lent};
+ghost use Rattle.palm_search.specs.Machine.{Begins, GivesBack, HasRunOn, state_of};
 ghost use Rattle.palm_search.specs.Stopping.{GuideStops};
 ghost use Rattle.palm_repair.specs.Answers.{IsTrueOf};
 ghost use Rattle.palm_repair.specs.Following.{HasRepairedBy, HasRunBy};
@@ -20,44 +20,70 @@ use palm_base::{NoMemory, Steps};
 use palm_engine::Engine;
 use palm_filter::Filter;
 use palm_guide::Guide;
-use palm_search::Search;
+use palm_search::{Machine, Search};
 use std::alloc::Global;
 use std::sync::ledger::Ledger;
 
 /// Settles and takes turns until the run ends.
 fn run<F: Filter, G: Guide, O: Order, L: Ledger>(
-    alloc: Global,
-    engine: &mut Engine<F>,
-    search: &mut Search,
-    guide: &mut Option<G>,
-    order: &mut Option<O>,
+    machine: &mut Machine<F, G, O, L>,
     tabu: u32,
     budget: u64,
-    steps: &mut Steps<L>,
 ) -> Result<RepairAnswer, NoMemory>
-    requires fresh { search.old ≡ record { decisions = []; journal = [] } }
-    requires users { HasOnlyUsers engine.old.state }
+    requires begins { Begins machine.old }
     requires some { 0 < tabu }
-    ensures ok { IfOk result (HasRunBy (GuideFollows G.answers G.hears G.state) (OrderFollows O.answers O.hears O.state) guide.old guide.new order.old order.new
-        tabu budget engine.old.state search.new.journal engine.new.state) }
-    ensures err { OnErr result (IsCutOff (is_some guide.old) (is_some order.old) tabu budget engine.old.state search.new.journal engine.new.state) }
-    ensures stopped { OnErr result (IsCutOffBy (GuideFollows G.answers G.hears G.state) (GuideStops G.answers G.hears G.state) (OrderFollows O.answers O.hears O.state) (OrderAnswers O.answers O.state)
-        guide.old guide.new order.old order.new tabu budget engine.old.state search.new.journal engine.new.state) }
-    ensures decisions { HasDecisions (search_state engine.new.state search.new) }
-    ensures counts { Counts engine.old engine.new steps.old steps.new }
-    ensures lent { Lent guide.old guide.new order.old order.new }
-    ensures before { IsValid engine.old.state }
+    ensures ok { IfOk result (HasRunBy (GuideFollows G.answers G.hears G.state)
+        (OrderFollows O.answers O.hears O.state)
+        machine.old.guide.now machine.new.guide.now machine.old.order.now machine.new.order.now
+        tabu budget machine.old.engine.now.state machine.new.search.now.journal machine.new.engine.now.state) }
+    ensures err { OnErr result (IsCutOff (is_some machine.old.guide.now) (is_some machine.old.order.now)
+        tabu budget machine.old.engine.now.state machine.new.search.now.journal machine.new.engine.now.state) }
+    ensures stopped { OnErr result (IsCutOffBy (GuideFollows G.answers G.hears G.state)
+        (GuideStops G.answers G.hears G.state)
+        (OrderFollows O.answers O.hears O.state) (OrderAnswers O.answers O.state)
+        machine.old.guide.now machine.new.guide.now machine.old.order.now machine.new.order.now
+        tabu budget machine.old.engine.now.state machine.new.search.now.journal machine.new.engine.now.state) }
+    ensures ran { HasRunOn machine.old machine.new }
 {
     // What holds of every engine is known once its store is read.
-    let _store = engine.store();
-    engine.settle(order, None, steps)?;
-    let mut learned = Learned::new(alloc, engine.store().variables())?;
+    let _store = machine.engine.store();
+    machine.settle()?;
+    let mut learned = Learned::new(machine.alloc, machine.engine.store().variables())?;
     loop {
-        if let Some(answer) = advance(alloc, engine, search, guide, &mut learned, tabu, budget)? {
+        if let Some(answer) = advance(machine, &mut learned, tabu, budget)? {
             return Ok(answer);
         }
-        engine.settle(order, None, steps)?;
+        machine.settle()?;
     }
+}
+
+/// Searches as [`repair`] does, with what the machine was lent.
+pub fn repair_by<F: Filter, G: Guide, O: Order, L: Ledger>(
+    machine: &mut Machine<F, G, O, L>,
+    tabu: u32,
+    budget: u64,
+) -> Result<RepairAnswer, NoMemory>
+    requires begins { Begins machine.old }
+    requires some { 0 < tabu }
+    ensures ok { IfOk result (HasRepairedBy (GuideFollows G.answers G.hears G.state)
+        (OrderFollows O.answers O.hears O.state)
+        machine.old.guide.now machine.new.guide.now machine.old.order.now machine.new.order.now
+        tabu budget machine.old.engine.now.state machine.new.search.now.journal machine.new.engine.now.state) }
+    ensures holds { IfOk result (IsTrueOf machine.old.engine.now.state budget) }
+    ensures err { OnErr result (BreaksOff (is_some machine.old.guide.now) (is_some machine.old.order.now)
+        tabu budget machine.old.engine.now.state machine.new.search.now.journal machine.new.engine.now.state) }
+    ensures stopped { OnErr result (BreaksOffBy (GuideFollows G.answers G.hears G.state)
+        (GuideStops G.answers G.hears G.state)
+        (OrderFollows O.answers O.hears O.state) (OrderAnswers O.answers O.state)
+        machine.old.guide.now machine.new.guide.now machine.old.order.now machine.new.order.now
+        tabu budget machine.old.engine.now.state machine.new.search.now.journal machine.new.engine.now.state) }
+    ensures gives { GivesBack machine.old machine.new result }
+{
+    let answer = run(machine, tabu, budget);
+    machine.close();
+    let answer = answer?;
+    machine.settle()?;
+    Ok(answer)
 }
 
 /// Searches for values that satisfy all constraints, within so many turns: it settles, decides, and at a conflict undoes
@@ -93,9 +119,13 @@ pub fn repair<F: Filter, G: Guide, O: Order, L: Ledger>(
     ensures counts { Counts engine.old engine.new steps.old steps.new }
     ensures lent { Lent guide.old guide.new order.old order.new }
 {
-    let answer = run(alloc, engine, search, guide, order, tabu, budget, steps);
-    search.close(engine);
-    let answer = answer?;
-    engine.settle(order, None, steps)?;
-    Ok(answer)
+    let mut machine = Machine {
+        alloc,
+        engine,
+        search,
+        guide,
+        order,
+        steps,
+    };
+    repair_by(&mut machine, tabu, budget)
 }

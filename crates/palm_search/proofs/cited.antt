@@ -8,6 +8,7 @@ pub mod Going
 pub mod Joining
 pub mod Keeping
 pub mod Leaving
+pub mod Lending
 pub mod Measuring
 pub mod Owning
 pub mod Results

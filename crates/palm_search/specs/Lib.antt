@@ -4,6 +4,7 @@ pub mod Calls
 pub mod Following
 pub mod Kept
 pub mod Leaves
+pub mod Machine
 pub mod Measure
 pub mod Search
 pub mod Stopping

@@ -5,6 +5,7 @@ mod choice;
 mod conflict;
 mod ending;
 pub mod laws;
+mod machine;
 mod next;
 mod search;
 pub mod turn;
@@ -24,7 +25,7 @@ pub use laws::{
     searches_leave_the_log, searches_without_guide_and_order_are_unique, settlings_keep_searching,
     turns_keep_searching, turns_with_settlings_keep_searching, users_of_no_solution_have_none,
 };
-pub use next::{Next, next_of};
+pub use machine::Machine;
+pub use next::Next;
 pub use search::Search;
 pub use turn::{Pick, Turn};
-pub use undoing::undo_latest;

@@ -11,12 +11,15 @@ ghost use Rattle.palm_search.specs.Turns.{IsOpen};
 use crate::choice::open_variable;
 use crate::conflict::{flat_conflict, has_decision, users_of};
 use crate::ending::SearchEnd;
+use crate::machine::Machine;
 use crate::search::Search;
+use palm_agenda::Order;
 use palm_base::{CidList, NoMemory, ValueList, Var};
 use palm_domain::DomainStore;
-use palm_engine::Engine;
 use palm_filter::Filter;
+use palm_guide::Guide;
 use std::alloc::Global;
+use std::sync::ledger::Ledger;
 
 /// What comes after a settling.
 #[derive(Debug, Drop)]
@@ -49,64 +52,51 @@ fn only_values(alloc: Global, store: &DomainStore) -> Result<ValueList, NoMemory
     Ok(values)
 }
 
-/// Where no domain is empty: the values, if each variable has one, and otherwise a decision.
-fn next_decision<F: Filter>(
-    alloc: Global,
-    engine: &Engine<F>,
-    search: &Search,
-    budget: u64,
-) -> Result<Next, NoMemory>
-    requires still { IsStill engine.now.state }
-    requires filled { AllFilled (present engine.now.state) }
-    requires within { length search.now.journal ≤ budget }
-    ensures { IfOk result (IsNext budget engine.now.state search.now) }
-{
-    let Some(_) = open_variable(engine.store()) else {
-        let values = only_values(alloc, engine.store())?;
-        return Ok(Next::Ended(SearchEnd::Found(values)));
-    };
-    if is_spent(search, budget) {
-        return Ok(Next::Ended(SearchEnd::Spent(budget)));
+impl<F: Filter, G: Guide, O: Order, L: Ledger> Machine<'_, '_, '_, '_, '_, F, G, O, L> {
+    /// What comes after a settling, within so many turns: the first end that holds, and otherwise the kind of the next turn.
+    /// A conflict is formed once.
+    pub fn next(&self, budget: u64) -> Result<Next, NoMemory>
+        requires still { IsStill self.now.engine.now.state }
+        requires within { length self.now.search.now.journal ≤ budget }
+        ensures { IfOk result (IsNext budget self.now.engine.now.state self.now.search.now) }
+    {
+        match self.engine.empty_variable() {
+            Some(_) => self.next_undoing(budget),
+            None => self.next_decision(budget),
+        }
     }
-    Ok(Next::Decide)
-}
 
-/// Where a domain is empty: the users of its flat conflict, if that holds no decision, and otherwise its undoing.
-fn next_undoing<F: Filter>(
-    alloc: Global,
-    engine: &Engine<F>,
-    search: &Search,
-    budget: u64,
-) -> Result<Next, NoMemory>
-    requires empty { HasOnlyEmpty (present engine.now.state) }
-    requires within { length search.now.journal ≤ budget }
-    ensures { IfOk result (IsNext budget engine.now.state search.now) }
-{
-    let conflict = flat_conflict(alloc, engine)?;
-    if !has_decision(conflict.as_slice()) {
-        let users = users_of(alloc, conflict.as_slice())?;
-        return Ok(Next::Ended(SearchEnd::NoSolution(users)));
+    /// Where no domain is empty: the values, if each variable has one, and otherwise a decision.
+    fn next_decision(&self, budget: u64) -> Result<Next, NoMemory>
+        requires still { IsStill self.now.engine.now.state }
+        requires filled { AllFilled (present self.now.engine.now.state) }
+        requires within { length self.now.search.now.journal ≤ budget }
+        ensures { IfOk result (IsNext budget self.now.engine.now.state self.now.search.now) }
+    {
+        let Some(_) = open_variable(self.engine.store()) else {
+            let values = only_values(self.alloc, self.engine.store())?;
+            return Ok(Next::Ended(SearchEnd::Found(values)));
+        };
+        if is_spent(self.search, budget) {
+            return Ok(Next::Ended(SearchEnd::Spent(budget)));
+        }
+        Ok(Next::Decide)
     }
-    if is_spent(search, budget) {
-        return Ok(Next::Ended(SearchEnd::Spent(budget)));
-    }
-    Ok(Next::Undo(conflict))
-}
 
-/// What comes after a settling, within so many turns: the first end that holds, and otherwise the kind of the next turn. A
-/// conflict is formed once. The engine, the search and the guide stay as they are.
-pub fn next_of<F: Filter>(
-    alloc: Global,
-    engine: &Engine<F>,
-    search: &Search,
-    budget: u64,
-) -> Result<Next, NoMemory>
-    requires still { IsStill engine.now.state }
-    requires within { length search.now.journal ≤ budget }
-    ensures { IfOk result (IsNext budget engine.now.state search.now) }
-{
-    match engine.empty_variable() {
-        Some(_) => next_undoing(alloc, engine, search, budget),
-        None => next_decision(alloc, engine, search, budget),
+    /// Where a domain is empty: the users of its flat conflict, if that holds no decision, and otherwise its undoing.
+    fn next_undoing(&self, budget: u64) -> Result<Next, NoMemory>
+        requires empty { HasOnlyEmpty (present self.now.engine.now.state) }
+        requires within { length self.now.search.now.journal ≤ budget }
+        ensures { IfOk result (IsNext budget self.now.engine.now.state self.now.search.now) }
+    {
+        let conflict = flat_conflict(self.alloc, self.engine)?;
+        if !has_decision(conflict.as_slice()) {
+            let users = users_of(self.alloc, conflict.as_slice())?;
+            return Ok(Next::Ended(SearchEnd::NoSolution(users)));
+        }
+        if is_spent(self.search, budget) {
+            return Ok(Next::Ended(SearchEnd::Spent(budget)));
+        }
+        Ok(Next::Undo(conflict))
     }
 }

@@ -1,5 +1,5 @@
 -- The texts that replies are written in, part by part.
-use Rattle.std.proofs.Common.{◌≡◌, ℕ, ◌+◌, ◌<◌, ◌≤◌, List, flat_map, get_or, ◌++◌, length, take, drop, refl, sym, ap, ◌∙◌, append_assoc, arith, []}
+use Rattle.std.proofs.Common.{◌≡◌, ℕ, ◌<◌, List, flat_map, get_or, ◌++◌, length, refl, sym, ap, ◌∙◌, append_assoc, arith, []}
 use Rattle.std.proofs.Common.{ℤ, zip, option_to_list, append-nil, slice_get, Some, zero, suc, ◌∷◌}
 use Rattle.std.proofs.lemmas.Option.{get_or_from_slice_get}
 use Rattle.std.proofs.lemmas.Slice.Zip.{get_or-zip, length-zip}
@@ -9,29 +9,13 @@ use Rattle.palm_lang.specs.Reply.{best_line, domain_line, entry_line, entry_at, 
 use Rattle.palm_lang.specs.declared.reply.Fixed.TheVariants.{End}
 use Rattle.palm_lang.specs.declared.reply.Lead.TheVariants.{Keep, Proved}
 use Rattle.palm_base.specs.declared.terms.Cid.{Cid}
-use Rattle.palm_session.specs.Answers.{domains_text, least_text, left_text, list_text, preferred_text, users_text}
+use Rattle.palm_session.specs.Answers.{least_text, left_text, list_text, preferred_text, users_text}
 use Rattle.palm_book.specs.declared.book.BookCon.{BookCon}
 use Rattle.palm_prefer.specs.declared.answer.LeftOut.{LeftOut}
 use Rattle.palm_prefer.specs.declared.answer.Preferred.TheVariants.{Kept}
 use Rattle.palm_cert.specs.Certificate.{certificate_text}
 use Rattle.palm_claim.specs.declared.verdict.Claim.{Claim}
 use Rattle.palm_model.specs.Log.{Removal}
-use Rattle.std.proofs.lemmas.List.{take-append-drop, take_more, take_all, flat_map_more}
-use Rattle.std.proofs.lemmas.Grind.{flat_map-append}
-
--- the texts of the first members, with one more
-pub flat_step : {X : Type 0} (f : X → List ℕ) (xs : List X) (i : ℕ) (d : X) → i < length xs
-    → flat_map f (take i xs) ++ f (get_or xs i d) ≡ flat_map f (take (i + 1) xs)
-flat_step f xs i d lt =
-    flat_map_more f [] (take i xs) (get_or xs i d) ∙ ap (λ ys. flat_map f ys) (sym (take_more xs i d lt))
-
--- the texts of all members, around one of them
-pub flat_split : {X : Type 0} (f : X → List ℕ) (xs : List X) (i : ℕ) (d : X) → i < length xs
-    → flat_map f xs ≡ (flat_map f (take i xs) ++ f (get_or xs i d)) ++ flat_map f (drop (i + 1) xs)
-flat_split {X} f xs i d lt =
-    ap (λ (ys : List X). flat_map f ys) (sym (take-append-drop (i + 1) xs))
-    ∙ flat_map-append f (take (i + 1) xs) (drop (i + 1) xs)
-    ∙ ap (λ (ys : List ℕ). ys ++ flat_map f (drop (i + 1) xs)) (sym (flat_step f xs i d lt))
 
 slice_get_some : {X : Type 0} (xs : List X) (i : ℕ) → i < length xs → (x : X) × (slice_get xs i ≡ Some x)
 slice_get_some [] i lt = absurd (omega (arith, lt))
@@ -53,16 +37,6 @@ pair_read variables d i e lt =
       ap (λ (p : BookVar × List ℤ). domain_line p.0.name p.1) (sym (get_or-zip variables d i (record { name = []; values = [] }, []) lt both)),
     )
 
--- the text of all domains, around one of them
-pub domains_split : (variables : List BookVar) (d : Domains) (i : ℕ) → i < length (zip variables d)
-    → domains_text variables d
-    ≡ (flat_map (λ (p : BookVar × List ℤ). domain_line p.0.name p.1) (take i (zip variables d))
-    ++ domain_line ((get_or (zip variables d) i (record { name = []; values = [] }, [])).0.name) ((get_or (zip variables d) i (record { name = []; values = [] }, [])).1))
-    ++ (flat_map (λ (p : BookVar × List ℤ). domain_line p.0.name p.1) (drop (i + 1) (zip variables d)) ++ fixed_text End)
-domains_split variables d i lt =
-    ap (λ (t : List ℕ). t ++ fixed_text End) (flat_split (λ (p : BookVar × List ℤ). domain_line p.0.name p.1) (zip variables d) i (record { name = []; values = [] }, []) lt)
-    ∙ append_assoc _ (flat_map (λ (p : BookVar × List ℤ). domain_line p.0.name p.1) (drop (i + 1) (zip variables d))) (fixed_text End)
-
 -- the text of a list begins with the variables
 pub list_parts : (book : Contents)
     → flat_map (λ (e : BookVar). var_line e.name e.values) book.variables ++ (flat_map (entry_line book.variables) book.constraints ++ fixed_text End) ≡ list_text book
@@ -76,18 +50,6 @@ least_parts book values users = sym (append_assoc (best_line book.variables valu
 -- the text of what is preferred begins with what is kept
 pub kept_parts : (book : Contents) (keep : List Cid) (left : List LeftOut) → users_text book Keep keep ++ (flat_map (left_text book) left ++ fixed_text End) ≡ preferred_text book (Kept keep left)
 kept_parts book keep left = sym (append_assoc (users_text book Keep keep) (flat_map (left_text book) left) (fixed_text End))
-
--- the values of all variables
-pub pairs_end : (variables : List BookVar) (d : Domains) (i : ℕ) → length d ≡ length variables → length variables ≤ i
-    → flat_map (λ (p : BookVar × List ℤ). domain_line p.0.name p.1) (take i (zip variables d)) ≡ flat_map (λ (p : BookVar × List ℤ). domain_line p.0.name p.1) (zip variables d)
-pairs_end variables d i e le = ap (λ (ps : List (BookVar × List ℤ)). flat_map (λ (p : BookVar × List ℤ). domain_line p.0.name p.1) ps) (take_all i (zip variables d) (omega (arith, length-zip variables d, e)))
-
--- the texts of all members and `end`, around one of them
-pub flat_split_end : {X : Type 0} (f : X → List ℕ) (xs : List X) (i : ℕ) (d : X) → i < length xs
-    → flat_map f xs ++ fixed_text End ≡ (flat_map f (take i xs) ++ f (get_or xs i d)) ++ (flat_map f (drop (i + 1) xs) ++ fixed_text End)
-flat_split_end f xs i d lt =
-    ap (λ (t : List ℕ). t ++ fixed_text End) (flat_split f xs i d lt)
-    ∙ append_assoc (flat_map f (take i xs) ++ f (get_or xs i d)) (flat_map f (drop (i + 1) xs)) (fixed_text End)
 
 -- ---- certificates
 

@@ -3,12 +3,12 @@ ghost use Rattle.std.specs.Prelude.{◌≡◌, ◌+◌, ◌-◌, ◌≤◌, [], 
 ghost use Rattle.palm_base.specs.Streams.{IsSameSink};
 ghost use Rattle.palm_base.specs.Tells.{Tells};
 ghost use Rattle.palm_base.specs.declared.limits.TheConstants.{LAST_COUNT};
-ghost use Rattle.palm_book.specs.Book.{active_of, initial_of};
 ghost use Rattle.palm_engine.specs.Engine.{HasAsked};
 ghost use Rattle.palm_engine.specs.Following.{HasSettledBy, OrderFollows};
 ghost use Rattle.palm_lang.specs.Writing.{IsCounted};
 ghost use Rattle.palm_model.specs.State.{IsValid};
 ghost use Rattle.palm_search.specs.Following.{GuideFollows};
+ghost use Rattle.proof_write.specs.Proving.{IsListedInBook};
 ghost use Rattle.palm_session.specs.Objects.{LendsChosen, all_placed, chosen_object, numbers_of, without_number, without_object};
 ghost use Rattle.palm_session.specs.Ways.{CanRun, RunsTo, StopsSo};
 
@@ -21,7 +21,7 @@ use palm_engine::{Engine, Settle};
 use palm_guide::Guide;
 use palm_kind::Kind;
 use palm_lang::Book;
-use palm_search::Search;
+use palm_search::{Machine, Search};
 use std::alloc::Global;
 use std::marker::Model;
 use std::sync::ledger::Ledger;
@@ -35,6 +35,7 @@ pub(crate) struct Objects<T: Drop> {
 }
 
 impl<T: Drop> Model for Objects<T> {
+    ghost use Rattle.proof_write.specs.Proving.{IsListedInBook};
     ghost use Rattle.palm_session.specs.Objects.{ArePlaces, ObjectsView, objects_at};
 
     ghost Value = { ObjectsView T };
@@ -122,8 +123,7 @@ pub(crate) fn search_by<G: Guide, O: Order, K: Sink, L: Ledger>(
     steps: &mut Steps<L>,
 ) -> Result<Searched, Stop>
     requires fresh { search.old ≡ record { decisions = []; journal = [] } }
-    requires initial { engine.old.state.initial ≡ initial_of book.now }
-    requires active { engine.old.state.active ≡ active_of book.now }
+    requires listed { IsListedInBook book.now engine.old.state }
     requires can { CanRun engine.old.state by }
     ensures ok { IfOk result (λ answer. RunsTo (GuideFollows G.answers G.hears G.state) (OrderFollows O.answers O.hears O.state) (chosen_object guides.old) (chosen_object guides.new) (chosen_object orders.old) (chosen_object orders.new)
         by book.now engine.old.state search.new.journal answer engine.new.state (K.state out.old).written (K.state out.new).written) }
@@ -138,15 +138,13 @@ pub(crate) fn search_by<G: Guide, O: Order, K: Sink, L: Ledger>(
 {
     let guide = guides.chosen;
     let order = orders.chosen;
-    run(
+    let mut machine = Machine {
         alloc,
         engine,
         search,
-        book,
-        &mut guides.places[guide],
-        &mut orders.places[order],
-        by,
-        out,
+        guide: &mut guides.places[guide],
+        order: &mut orders.places[order],
         steps,
-    )
+    };
+    run(&mut machine, book, by, out)
 }

@@ -1,13 +1,13 @@
 //! The ways of searching, an arm each.
 ghost use Rattle.std.specs.Prelude.{◌≡◌, [], IfErr, IfOk, is_some};
 ghost use Rattle.palm_base.specs.Streams.{IsSameSink};
-ghost use Rattle.palm_book.specs.Book.{active_of, initial_of};
 ghost use Rattle.palm_engine.specs.Following.{OrderFollows};
 ghost use Rattle.palm_lang.specs.declared.reply.Lead.TheVariants.{NoSolution};
 ghost use Rattle.palm_lang.specs.Writing.{IsCounted};
 ghost use Rattle.palm_model.specs.State.{IsValid};
 ghost use Rattle.palm_search.specs.Following.{GuideFollows};
-ghost use Rattle.palm_search.specs.Leaves.{Counts, Lent};
+ghost use Rattle.palm_search.specs.Machine.{RunsOn};
+ghost use Rattle.proof_write.specs.Proving.{IsListedInBook};
 ghost use Rattle.palm_session.specs.Ways.{CanRun, RunsTo, StopsSo, reply_of};
 ghost use Rattle.palm_session.specs.declared.reply.Reply.TheVariants.{Spent, Users};
 
@@ -15,17 +15,15 @@ use crate::reply::Reply;
 use crate::request::Procedure;
 use crate::stop::Stop;
 use palm_agenda::Order;
-use palm_base::{CidList, Sink, Steps};
-use palm_best::{Best, minimize};
-use palm_dbt::{Answer, solve};
-use palm_engine::Engine;
+use palm_base::{CidList, Sink};
+use palm_best::{Best, minimize_by};
+use palm_dbt::{Answer, solve_by};
 use palm_guide::Guide;
 use palm_kind::Kind;
 use palm_lang::{Book, Lead};
-use palm_repair::{RepairAnswer, repair};
-use palm_search::Search;
-use proof_write::prove;
-use std::alloc::Global;
+use palm_repair::{RepairAnswer, repair_by};
+use palm_search::Machine;
+use proof_write::prove_by;
 use std::sync::ledger::Ledger;
 
 /// How a search ended, by the way of searching.
@@ -87,48 +85,42 @@ fn told_spent(turns: u64, dropped: Option<u64>) -> Reply
     Reply::Spent { turns, dropped }
 }
 
-/// Searches in this way by a guide and an order, or without them. A proof is written while the search runs.
+/// Searches in this way with what the machine was lent. A proof is written while the search runs.
 pub(crate) fn run<G: Guide, O: Order, K: Sink, L: Ledger>(
-    alloc: Global,
-    engine: &mut Engine<Kind>,
-    search: &mut Search,
+    machine: &mut Machine<Kind, G, O, L>,
     book: &Book,
-    guide: &mut Option<G>,
-    order: &mut Option<O>,
     by: Procedure,
     out: &mut K,
-    steps: &mut Steps<L>,
 ) -> Result<Searched, Stop>
-    requires fresh { search.old ≡ record { decisions = []; journal = [] } }
-    requires initial { engine.old.state.initial ≡ initial_of book.now }
-    requires active { engine.old.state.active ≡ active_of book.now }
-    requires can { CanRun engine.old.state by }
-    ensures ok { IfOk result (λ answer. RunsTo (GuideFollows G.answers G.hears G.state) (OrderFollows O.answers O.hears O.state) guide.old guide.new order.old order.new
-        by book.now engine.old.state search.new.journal answer engine.new.state (K.state out.old).written (K.state out.new).written) }
-    ensures front { IfErr result (λ stop. StopsSo stop (is_some guide.old) (is_some order.old) by book.now engine.old.state (K.state out.old).written (K.state out.new).written) }
+    requires fresh { machine.old.search.now ≡ record { decisions = []; journal = [] } }
+    requires listed { IsListedInBook book.now machine.old.engine.now.state }
+    requires can { CanRun machine.old.engine.now.state by }
+    ensures ok { IfOk result (λ answer. RunsTo (GuideFollows G.answers G.hears G.state)
+        (OrderFollows O.answers O.hears O.state)
+        machine.old.guide.now machine.new.guide.now machine.old.order.now machine.new.order.now
+        by book.now machine.old.engine.now.state machine.new.search.now.journal answer machine.new.engine.now.state
+        (K.state out.old).written (K.state out.new).written) }
+    ensures front { IfErr result (λ stop. StopsSo stop
+        (is_some machine.old.guide.now) (is_some machine.old.order.now) by book.now machine.old.engine.now.state
+        (K.state out.old).written (K.state out.new).written) }
     ensures counted { IsCounted (K.state out.old).faults (K.state out.new).faults result }
     ensures stands { IsSameSink (K.state out.old) (K.state out.new) result }
-    ensures counts { Counts engine.old engine.new steps.old steps.new }
-    ensures lent { Lent guide.old guide.new order.old order.new }
-    ensures valid { IsValid engine.new.state }
+    ensures runs { RunsOn machine.old machine.new }
+    ensures valid { IsValid machine.new.engine.now.state }
 {
     // What holds of every engine is known once its store is read.
-    let _store = engine.store();
+    let _store = machine.engine.store();
     match by {
-        Procedure::Dbt { budget } => Ok(Searched::Dbt(solve(
-            alloc, engine, search, guide, order, budget, steps,
-        )?)),
-        Procedure::Repair { tabu, budget } => Ok(Searched::Repair(repair(
-            alloc, engine, search, guide, order, tabu, budget, steps,
-        )?)),
+        Procedure::Dbt { budget } => Ok(Searched::Dbt(solve_by(machine, budget)?)),
+        Procedure::Repair { tabu, budget } => {
+            Ok(Searched::Repair(repair_by(machine, tabu, budget)?))
+        }
         Procedure::Proof { budget } => {
-            prove(
-                alloc, engine, search, book, guide, order, budget, out, steps,
-            )?;
+            prove_by(machine, book, budget, out)?;
             Ok(Searched::Proof)
         }
-        Procedure::Least { target, budget } => Ok(Searched::Least(minimize(
-            alloc, engine, search, target, guide, order, budget, steps,
-        )?)),
+        Procedure::Least { target, budget } => {
+            Ok(Searched::Least(minimize_by(machine, target, budget)?))
+        }
     }
 }

@@ -1,8 +1,8 @@
 -- What is assumed, by variables.
-use Rattle.std.proofs.Common.{◌≡◌, ℕ, zero, suc, ℤ, ◌+◌, ◌-◌, ◌<◌, true, false, Option, Some, None, option_map, List, [], ◌∷◌, ◌++◌, length, get_or, set, take, take_all, drop, append-nil, map, All, Contains, inl, inr, refl, sym, ap, ◌∙◌, subst, arith}
+use Rattle.std.proofs.Common.{◌≡◌, ℕ, zero, suc, ℤ, ◌+◌, ◌-◌, ◌<◌, true, false, Option, Some, None, option_map, List, [], ◌∷◌, ◌++◌, length, get_or, take, take_all, drop, append-nil, map, All, Contains, inl, inr, refl, sym, ap, ◌∙◌, subst, arith}
 use Rattle.std.specs.Prelude.{is_some, slice_get}
 use Rattle.std.proofs.lemmas.Bool.{cases_eq, false≢true, true≢false}
-use Rattle.std.proofs.lemmas.List.{get_or-set_same, get_or-set_other, length-set, drop_all, take_more}
+use Rattle.std.proofs.lemmas.List.{drop_all, take_more}
 use Rattle.std.proofs.lemmas.List.Elements.{Contains-append_left, Contains-push, Contains-push_cases}
 use Rattle.std.proofs.lemmas.Option.{none-some, same_Some, slice_get-map}
 use Rattle.palm_base.specs.declared.terms.Pair.{Pair}
@@ -12,13 +12,6 @@ use Rattle.proof_text.specs.declared.lemma.Lemma.{Lemma}
 use Rattle.proof_check.specs.Kept.{AreAssumed, Forgets, IsByOthers, IsOther, Puts, assumed_at}
 
 -- ---- one variable
-
-pub put_puts : (xs : List (Option ℤ)) (x : ℕ) (v : Option ℤ) → x < length xs → Puts xs (set xs x v) x v
-put_puts xs x v lt = record {
-  long = length-set xs x v;
-  here = get_or-set_same xs x v None lt;
-  others = λ y ne. get_or-set_other xs x y v None ne;
-}
 
 -- a variable for which something is assumed has a place
 pub at_within : (xs : List (Option ℤ)) (x : ℕ) (v : ℤ) → assumed_at xs x ≡ Some v → x < length xs
@@ -33,12 +26,6 @@ at_push (o ∷ xs) zero = refl
 at_push (o ∷ xs) (suc x) = at_push xs x
 
 -- ---- all that is assumed
-
-pub none_assumed : AreAssumed [] []
-none_assumed = record {
-  each = λ p m. absurd (member_nil p m);
-  only = λ x v e. absurd (none-some v e);
-}
 
 pub assumed_within : (pairs : List Pair) (xs : List (Option ℤ)) → AreAssumed pairs xs → All (λ p. p.var < length xs) pairs
 assumed_within pairs xs a = all_members (λ p. p.var < length xs) pairs (λ p m. at_within xs p.var p.value (a.each p m))

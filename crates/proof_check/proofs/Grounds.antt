@@ -7,8 +7,8 @@ use Rattle.palm_book.proofs.cited.Pairs.{Apart, pair_declared, pair_is}
 use Rattle.palm_model.specs.Domains.{Has}
 use Rattle.palm_claim.specs.Step.{IsRightBy}
 use Rattle.palm_claim.specs.declared.ground.Ground.{Ground}
-use Rattle.palm_claim.specs.declared.verdict.Cause.TheVariants.{NotRight, Unproved}
-use Rattle.palm_claim.proofs.cited.Causes.{first_not_right, first_unproved, without_cause}
+use Rattle.palm_claim.specs.declared.verdict.Cause.TheVariants.{NotRight}
+use Rattle.palm_claim.proofs.cited.Causes.{first_not_right, without_cause}
 use Rattle.proof_text.specs.Draft.{Draft, Notes, given_in, with_step}
 use Rattle.proof_text.specs.Verdict.{IsMisdeclared, IsUnknownGround, IsUnprovedGround, Meets}
 use Rattle.proof_text.specs.declared.lemma.Lemma.{Lemma}
@@ -20,9 +20,6 @@ use Rattle.proof_check.specs.Kept.{TakesGround}
 module _ (d : Draft) (pair : Pair) (basis : Ground) (stands : d.stage ≡ Reasoning) (has : Has (initial_of d.book) pair.var pair.value) (known : IsUnknownGround d basis → ⊥) where
   declared : (name : List ℕ) (value : ℤ) → IsPair d.book.variables name value pair → IsMisdeclared d (Step name value basis) → ⊥
   declared name value is m = elim m [ inl h ↦ h (pair_declared d.book name value pair is has) | inr h ↦ known h ]
-
-  pub takes_unproved : (e : Draft) → IsUnprovedGround d basis → TakesGround d pair basis (Some Unproved) e
-  takes_unproved e late name value is = first_unproved (Meets d (Phrase (Step name value basis))) (λ n. n stands) (declared name value is) (λ h. h) late
 
   module _ (early : IsUnprovedGround d basis → ⊥) where
     pub takes_not_right : (e : Draft) → (IsRightBy d.book (given_in d) d.proved pair basis → ⊥) → TakesGround d pair basis (Some NotRight) e

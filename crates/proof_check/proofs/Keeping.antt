@@ -1,9 +1,7 @@
 -- What is kept of a proof stays so: more that is listed, a lemma begun, a pair assumed, a step, and a lemma that is done.
-use Rattle.std.proofs.Common.{◌≡◌, ℕ, zero, suc, ℤ, ◌+◌, ◌<◌, ◌≤◌, Option, Some, None, List, [], ◌∷◌, ◌++◌, length, All, ◌⊎◌, inl, inr, refl, sym, ap, ◌∙◌, subst, arith}
-use Rattle.std.specs.Prelude.{slice_get}
+use Rattle.std.proofs.Common.{◌≡◌, ℕ, ℤ, ◌+◌, ◌<◌, ◌≤◌, Option, Some, None, List, [], ◌∷◌, ◌++◌, length, All, sym, ap, ◌∙◌, subst, arith}
 use Rattle.std.proofs.lemmas.List.{length_push}
 use Rattle.std.proofs.lemmas.List.Elements.{All-nil, All-push, All-weaker}
-use Rattle.std.proofs.lemmas.Option.{none-some, same_Some}
 use Rattle.palm_base.specs.declared.terms.Pair.{Pair}
 use Rattle.palm_book.specs.Book.{BookVar, Contents, initial_of, listed, with_listed, with_variable}
 use Rattle.palm_claim.proofs.cited.ProvedSteps.{still_declared}
@@ -12,7 +10,7 @@ use Rattle.palm_model.specs.declared.constraint.Con.{Con}
 use Rattle.proof_text.specs.Draft.{unproved}
 use Rattle.proof_text.specs.declared.lemma.Lemma.{Lemma}
 use Rattle.proof_check.specs.Kept.{AreAssumed, AreBehind, AreReasoned, Forgets, IsBehind, Puts, assumed_at, noting_constraint, noting_lemma}
-use Rattle.proof_check.proofs.Assuming.{assumed_more, forgotten, none_assumed, still_assumed}
+use Rattle.proof_check.proofs.Assuming.{assumed_more, forgotten, still_assumed}
 
 -- ---- lemmas before a lemma
 
@@ -30,20 +28,6 @@ noted_constraint room count l n b lt = record { constraints = All-push (λ k. k 
 
 noted_lemma : (room count : ℕ) (l : Lemma) (k : ℕ) → IsBehind room count l → (1 ≤ k) × (k ≤ count) → IsBehind room count (noting_lemma l k)
 noted_lemma room count l k b early = record { constraints = b.constraints; lemmas = All-push (λ j. (1 ≤ j) × (j ≤ count)) l.lemmas k b.lemmas early }
-
-get_push : {X : Type 0} (xs : List X) (y : X) (i : ℕ) (x : X) → slice_get (xs ++ y ∷ []) i ≡ Some x → (slice_get xs i ≡ Some x) ⊎ ((i ≡ length xs) × (y ≡ x))
-get_push [] y zero x at = inr (refl, same_Some y x at)
-get_push [] y (suc i) x at = absurd (none-some x at)
-get_push (z ∷ zs) y zero x at = inl at
-get_push (z ∷ zs) y (suc i) x at = elim (get_push zs y i x at) [ inl l ↦ inl l | inr r ↦ inr (ap (λ (k : ℕ). suc k) r.0, r.1) ]
-
-behind_push : (room : ℕ) (lemmas : List Lemma) (l : Lemma) → AreBehind room lemmas → IsBehind room (length lemmas) l → AreBehind room (lemmas ++ l ∷ [])
-behind_push room lemmas l are b = record {
-  each = λ place m at. elim (get_push lemmas l place m at) [
-    | inl h ↦ are.each place m h
-    | inr h ↦ subst (λ (k : ℕ). IsBehind room k m) (sym h.0) (subst (λ (o : Lemma). IsBehind room (length lemmas) o) h.1 b)
-  ];
-}
 
 -- ---- what else is listed
 
@@ -86,15 +70,6 @@ module _ (before after : Contents) (lemmas : List Lemma) (begun : Lemma) (assume
       }
 
 -- ---- lemmas
-
-pub nothing_kept : (book : Contents) (begun : Lemma) → book ≡ record { variables = []; constraints = [] } → begun ≡ unproved [] → AreReasoned book [] begun [] []
-nothing_kept book begun blank none = record {
-  declared = All-nil (λ (p : Pair). Has (initial_of book) p.var p.value);
-  long = subst (λ (b : Contents). 0 ≡ length b.variables) (sym blank) refl;
-  assumes = subst (λ (l : Lemma). AreAssumed l.pairs []) (sym none) none_assumed;
-  behind = record { each = λ place l at. absurd (none-some l at) };
-  last = subst (λ (l : Lemma). IsBehind (length book.constraints + 1) 0 l) (sym none) (nothing_behind (length book.constraints + 1) 0 []);
-}
 
 module _ (book : Contents) (lemmas : List Lemma) (begun : Lemma) (assumed : List (Option ℤ)) (proved : List Pair) (kept : AreReasoned book lemmas begun assumed proved) where
   -- a lemma begins that assumes nothing
@@ -142,19 +117,3 @@ module _ (book : Contents) (lemmas : List Lemma) (begun : Lemma) (assumed : List
   keeps_step_of_lemma more pair after k has grown noted early =
       keeps_step more pair after has grown (subst (λ (l : Lemma). AreAssumed l.pairs assumed) (sym noted) kept.assumes)
       (subst (λ (l : Lemma). IsBehind (length book.constraints + 1) (length lemmas) l) (sym noted) (noted_lemma (length book.constraints + 1) (length lemmas) begun k kept.last early))
-
-  -- the lemma begun is done
-  pub keeps_lemma : (more : List Lemma) → more ≡ lemmas ++ begun ∷ [] → AreReasoned book more begun assumed proved
-  keeps_lemma more grown =
-      let longer : length more ≡ length lemmas + 1 = ap (λ (ls : List Lemma). length ls) grown ∙ length_push lemmas begun in
-      record {
-        declared = kept.declared;
-        long = kept.long;
-        assumes = kept.assumes;
-        behind = subst (λ (ls : List Lemma). AreBehind (length book.constraints + 1) ls) (sym grown) (behind_push (length book.constraints + 1) lemmas begun kept.behind kept.last);
-        last = record {
-          constraints = kept.last.constraints;
-          lemmas = All-weaker (λ k. (1 ≤ k) × (k ≤ length lemmas)) (λ k. (1 ≤ k) × (k ≤ length more))
-              (λ k b. let most : k ≤ length lemmas = b.1 in let most_now : k ≤ length more = omega (arith, most, longer) in (b.0, most_now)) begun.lemmas kept.last.lemmas;
-        };
-      }

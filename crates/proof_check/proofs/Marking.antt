@@ -1,9 +1,8 @@
 -- Marks by numbers, and the pass over the lemmas.
-use Rattle.std.proofs.Common.{◌≡◌, ℕ, zero, suc, ◌+◌, ◌-◌, ◌<◌, ◌≤◌, Bool, true, false, Some, List, [], ◌∷◌, ◌++◌, length, get_or, set, replicate, All, Contains, ◌⊎◌, inl, inr, refl, sym, ap, ◌∙◌, subst, arith}
+use Rattle.std.proofs.Common.{◌≡◌, ℕ, zero, suc, ◌+◌, ◌-◌, ◌≤◌, Bool, true, false, Some, List, [], ◌∷◌, ◌++◌, length, replicate, Contains, ◌⊎◌, inl, inr, refl, sym, ap, ◌∙◌, subst, arith}
 use Rattle.std.specs.Prelude.{slice_get}
 use Rattle.std.proofs.lemmas.Bool.{cases_eq, false≢true}
-use Rattle.std.proofs.lemmas.List.{get_or-set_same, get_or-set_other, length-set}
-use Rattle.std.proofs.lemmas.List.Elements.{All-contains, All-weaker, Contains-append_left, Contains-push, Contains-push_cases}
+use Rattle.std.proofs.lemmas.List.Elements.{All-contains, Contains-append_left, Contains-push, Contains-push_cases}
 use Rattle.std.proofs.lemmas.Option.{same_Some}
 use Rattle.palm_base.proofs.cited.Members.{member_nil}
 use Rattle.proof_text.specs.Users.{Uses, by_step, by_lemma}
@@ -18,18 +17,6 @@ unmarked : (count n : ℕ) → IsMarked (replicate count false) n → ⊥
 unmarked zero n e = false≢true e
 unmarked (suc count) zero e = false≢true e
 unmarked (suc count) (suc n) e = unmarked count n e
-
-pub mark_more : (marks : List Bool) (place : ℕ) → place < length marks → MarksMore marks (set marks place true) (λ n. n ≡ place)
-mark_more marks place lt = record { long = length-set marks place true; keeps = keeps; marks = here; only = only }
-  where
-    here : (n : ℕ) → n ≡ place → IsMarked (set marks place true) n
-    here n e = ap (λ (k : ℕ). get_or (set marks place true) k false) e ∙ get_or-set_same marks place true false lt
-
-    keeps : (n : ℕ) → IsMarked marks n → IsMarked (set marks place true) n
-    keeps n m = elim (cases_eq n place) [ inl e ↦ here n e | inr ne ↦ get_or-set_other marks place n true false ne ∙ m ]
-
-    only : (n : ℕ) → IsMarked (set marks place true) n → IsMarked marks n ⊎ (n ≡ place)
-    only n m = elim (cases_eq n place) [ inl e ↦ inr e | inr ne ↦ inl (sym (get_or-set_other marks place n true false ne) ∙ m) ]
 
 pub marks_none : (marks : List Bool) → MarksMore marks marks (Contains [])
 marks_none marks = record { long = refl; keeps = λ n m. m; marks = λ n m. absurd (member_nil n m); only = λ n m. inl m }
@@ -57,10 +44,6 @@ uses_through : (lemmas : List Lemma) (lemma l : Lemma) (place n : ℕ) → Conta
 uses_through lemmas lemma l place n m at u =
     let e : place ≡ place + 1 - 1 = omega arith in
     by_lemma lemma l (place + 1) n m (subst (λ (k : ℕ). slice_get lemmas k ≡ Some l) e at) u
-
--- the numbers of the lemmas that stand before one have marks
-pub behind_lemmas : (room count long : ℕ) (l : Lemma) → IsBehind room count l → count < long → All (λ k. k < long) l.lemmas
-behind_lemmas room count long l b lt = All-weaker (λ k. (1 ≤ k) × (k ≤ count)) (λ k. k < long) (λ k bounds. let most : k ≤ count = bounds.1 in omega (arith, most, lt)) l.lemmas b.lemmas
 
 -- what uses a constraint is named, or pending
 pending : (lemmas : List Lemma) (marks : Marks) (lemma : Lemma) (before : Marks) (room count : ℕ) (n : ℕ) → IsBehind room count lemma → MarksNamed before marks lemma → Uses lemmas lemma n
@@ -101,18 +84,6 @@ passed_start lemmas lemma before after room many blank none behind named = recor
     ]
 
 module _ (lemmas : List Lemma) (lemma : Lemma) (before : Marks) (place : ℕ) (passed : IsPassed lemmas lemma before (place + 1)) where
-  pub passed_by : (IsMarked before.lemmas.items (place + 1) → ⊥) → IsPassed lemmas lemma before place
-  passed_by none = record { used = passed.used; through = passed.through; all = all }
-    where
-      all : (n : ℕ) → Uses lemmas lemma n → IsMarked before.constraints.items n ⊎ IsPending lemmas before.lemmas.items place n
-      all n u = elim (passed.all n u) [
-        | inl m ↦ inl m
-        | inr p ↦ elim (cases_eq p.place place) [
-          | inl e ↦ absurd (none (subst (λ (k : ℕ). IsMarked before.lemmas.items (k + 1)) e p.reached))
-          | inr ne ↦ inr (record { place = p.place; early = omega (arith, p.early, ne); reached = p.reached; lemma = p.lemma; stands = p.stands; uses = p.uses })
-        ]
-      ]
-
   pub passed_through : (after : Marks) (l : Lemma) (room : ℕ) → IsMarked before.lemmas.items (place + 1) → slice_get lemmas place ≡ Some l → IsBehind room place l → MarksNamed before after l
       → IsPassed lemmas lemma after place
   passed_through after l room reached at behind named = record { used = used; through = through; all = all }

@@ -1,38 +1,26 @@
--- The texts of a book's variables and active constraints, one after another.
-use Rattle.std.proofs.Common.{◌≡◌, ℕ, zero, suc, ◌+◌, ◌<◌, ◌≤◌, Some, List, [], ◌∷◌, ◌++◌, length, take, drop, get_or, map, flat_map, sym, ap, ◌∙◌, append-nil, arith, zero-add}
+-- The texts of a book's variables, and marks by a test.
+use Rattle.std.proofs.Common.{◌≡◌, ℕ, zero, suc, ◌+◌, Some, List, [], ◌∷◌, ◌++◌, length, map, flat_map, refl, sym, ap, ◌∙◌, arith}
 use Rattle.std.specs.Prelude.{slice_get}
 use Rattle.std.specs.List.{range_with_len}
-use Rattle.std.proofs.lemmas.Grind.{flat_map-append}
-use Rattle.std.proofs.lemmas.List.{take-append-drop, take_all, take_more}
-use Rattle.std.proofs.lemmas.List.FromFn.{get_or-range_with_len, length-range_with_len}
 use Rattle.std.proofs.lemmas.Option.{none-some, same_Some}
+use Rattle.palm_book.specs.Book.{BookVar}
+use Rattle.palm_cert.specs.Certificate.{declared_line}
+use Rattle.palm_lang.specs.Reply.{var_line}
 
--- ---- the numbers from 0 on
+-- ---- variables by their numbers
 
-range_more : (n i : ℕ) → i < n → take (i + 1) (range_with_len 0 n) ≡ take i (range_with_len 0 n) ++ i ∷ []
-range_more n i lt =
-    let within : i < length (range_with_len 0 n) = omega (arith, lt, length-range_with_len 0 n) in
-    let at : get_or (range_with_len 0 n) i 0 ≡ i = get_or-range_with_len 0 n i 0 lt ∙ zero-add i in
-    take_more (range_with_len 0 n) i 0 within ∙ ap (λ z. take i (range_with_len 0 n) ++ z ∷ []) at
+-- the texts of numbers, each one higher
+texts_after : (f : ℕ → List ℕ) (a n : ℕ) → flat_map f (range_with_len (a + 1) n) ≡ flat_map (λ x. f (suc x)) (range_with_len a n)
+texts_after f a zero = refl
+texts_after f a (suc n) =
+    let e : a + 1 ≡ suc a = omega arith in
+    ap (λ (k : ℕ). f k ++ flat_map f (range_with_len ((a + 1) + 1) n)) e ∙ ap (λ (t : List ℕ). f (suc a) ++ t) (texts_after f (a + 1) n)
 
--- the texts of the first of the numbers below n
-module _ (f : ℕ → List ℕ) (n : ℕ) where
-  abbrev pub first : ℕ → List ℕ
-  first i = flat_map f (take i (range_with_len 0 n))
-
-  pub first_more : (i : ℕ) → i < n → first i ++ f i ≡ first (i + 1)
-  first_more i lt =
-      ap (λ (t : List ℕ). first i ++ t) (sym (append-nil (f i)))
-      ∙ sym (flat_map-append f (take i (range_with_len 0 n)) (i ∷ [])) ∙ ap (λ (xs : List ℕ). flat_map f xs) (sym (range_more n i lt))
-
-  pub first_split : (i : ℕ) → i < n → flat_map f (range_with_len 0 n) ≡ (first i ++ f i) ++ flat_map f (drop (i + 1) (range_with_len 0 n))
-  first_split i lt =
-      ap (λ (xs : List ℕ). flat_map f xs) (sym (take-append-drop (i + 1) (range_with_len 0 n)))
-      ∙ flat_map-append f (take (i + 1) (range_with_len 0 n)) (drop (i + 1) (range_with_len 0 n))
-      ∙ ap (λ (t : List ℕ). t ++ flat_map f (drop (i + 1) (range_with_len 0 n))) (sym (first_more i lt))
-
-  pub first_all : (i : ℕ) → n ≤ i → first i ≡ flat_map f (range_with_len 0 n)
-  first_all i le = ap (λ (xs : List ℕ). flat_map f xs) (take_all i (range_with_len 0 n) (omega (arith, le, length-range_with_len 0 n)))
+-- the lines of the variables by their numbers are those of the variables in turn
+pub variables_in_turn : (variables : List BookVar) → flat_map (λ e. var_line e.name e.values) variables ≡ flat_map (declared_line variables) (range_with_len 0 (length variables))
+variables_in_turn [] = refl
+variables_in_turn (v ∷ variables) =
+    ap (λ (t : List ℕ). var_line v.name v.values ++ t) (variables_in_turn variables ∙ sym (texts_after (declared_line (v ∷ variables)) 0 (length variables)))
 
 -- ---- marks by a test
 

@@ -1,8 +1,8 @@
 -- What a search that writes its proof has done.
-use Rattle.std.specs.Prelude.{ℕ, Bool, is_some, List, Option}
+use Rattle.std.specs.Prelude.{◌≡◌, ℕ, Bool, is_some, List, Option}
 use Rattle.palm_base.specs.Streams.{Appended}
 use Rattle.palm_model.specs.State.{EngineState}
-use Rattle.palm_book.specs.Book.{Contents}
+use Rattle.palm_book.specs.Book.{Contents, active_of, initial_of}
 use Rattle.palm_engine.specs.Following.{Hearing}
 use Rattle.palm_lang.specs.Writing.{AppendedUntil}
 use Rattle.palm_lang.specs.declared.stop.WriteStop.{WriteStop}
@@ -13,6 +13,11 @@ use Rattle.palm_search.specs.Turns.{SearchState}
 use Rattle.proof_run.specs.Accepted.{IsAcceptedAtNone}
 use Rattle.proof_run.specs.SoFar.{IsTextSoFar}
 use Rattle.proof_run.specs.Text.{IsTextOf, ProvesBy}
+
+-- the variables with their declared values and the active constraints are those of the book
+pub record IsListedInBook (book : Contents) (s : EngineState) : Type 0 where
+  pub initial : s.initial ≡ initial_of book
+  pub active : s.active ≡ active_of book
 
 -- the run led the guide and the order on, and its text was written
 pub record HasRun {G O : Type 0} (guiding : Moment → Option G → Option G → Type 0) (ordering : Hearing → Option O → Option O → Type 0) (guide_first guide_last : Option G) (order_first order_last : Option O)

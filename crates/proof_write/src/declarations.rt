@@ -1,15 +1,14 @@
 //! Writing what a proof is of: the variables and the active constraints.
 ghost use Rattle.std.specs.Prelude.{◌<◌, length, filter, flat_map};
-ghost use Rattle.std.specs.List.{range_with_len};
-ghost use Rattle.palm_cert.specs.Certificate.{added_line, declared_line};
+ghost use Rattle.palm_cert.specs.Certificate.{added_line};
+ghost use Rattle.palm_lang.specs.Writer.{Wrote};
 ghost use Rattle.palm_lang.specs.Writing.{Writes};
-ghost use Rattle.proof_run.specs.Text.{declarations, header_line};
+ghost use Rattle.proof_run.specs.Text.{declarations};
 ghost use Rattle.proof_write.specs.Lines.{active_at};
 
-use crate::lines::put_header;
-use palm_base::{Sink, Var};
+use palm_base::Sink;
 use palm_cert::write_added;
-use palm_lang::{Book, WriteStop, write_line, write_var};
+use palm_lang::{Book, WriteStop, Writer};
 
 /// Writes the header, every variable, and every active constraint by rising number.
 pub(crate) fn write_declarations<K: Sink>(
@@ -19,38 +18,24 @@ pub(crate) fn write_declarations<K: Sink>(
 ) -> Result<(), WriteStop>
     ensures { Writes (K.state out.old) (K.state out.new) (declarations book.now) result }
 {
-    write_header(out, buffer)?;
-    write_variables(book, out, buffer)?;
-    write_constraints(book, out, buffer)
+    write_lines(book, &mut Writer::new(out, buffer))
 }
 
-/// Writes the first line.
-fn write_header<K: Sink>(out: &mut K, buffer: &mut Vec<u8>) -> Result<(), WriteStop>
-    ensures { Writes (K.state out.old) (K.state out.new) header_line result }
+/// Writes the lines of these.
+fn write_lines<K: Sink>(book: &Book, writer: &mut Writer<'_, K>) -> Result<(), WriteStop>
+    ensures { Wrote K.state writer.old writer.new (declarations book.now) result }
 {
-    write_line!(out, buffer, put_header())
-}
-
-/// Writes the variables.
-fn write_variables<K: Sink>(book: &Book, out: &mut K, buffer: &mut Vec<u8>) -> Result<(), WriteStop>
-    ensures { Writes (K.state out.old) (K.state out.new) (flat_map (declared_line book.now.variables) (range_with_len 0 (length book.now.variables))) result }
-{
-    for index in 0..book.variables() {
-        write_var(book, Var(index), out, buffer)?;
-    }
-    Ok(())
+    writer.text(b"palm-proof 1\n")?;
+    writer.variables(book)?;
+    write_constraints(book, writer)
 }
 
 /// Writes the active constraints.
-fn write_constraints<K: Sink>(
-    book: &Book,
-    out: &mut K,
-    buffer: &mut Vec<u8>,
-) -> Result<(), WriteStop>
-    ensures { Writes (K.state out.old) (K.state out.new) (flat_map (added_line book.now.variables) (filter (λ c. c.active) book.now.constraints)) result }
+fn write_constraints<K: Sink>(book: &Book, writer: &mut Writer<'_, K>) -> Result<(), WriteStop>
+    ensures { Wrote K.state writer.old writer.new (flat_map (added_line book.now.variables) (filter (λ c. c.active) book.now.constraints)) result }
 {
     for place in 0..book.constraints() {
-        write_constraint(book, place, out, buffer)?;
+        write_constraint(book, place, writer)?;
     }
     Ok(())
 }
@@ -59,15 +44,14 @@ fn write_constraints<K: Sink>(
 fn write_constraint<K: Sink>(
     book: &Book,
     place: usize,
-    out: &mut K,
-    buffer: &mut Vec<u8>,
+    writer: &mut Writer<'_, K>,
 ) -> Result<(), WriteStop>
     requires { place < length book.now.constraints }
-    ensures { Writes (K.state out.old) (K.state out.new) (flat_map (added_line book.now.variables) (active_at book.now.constraints place)) result }
+    ensures { Wrote K.state writer.old writer.new (flat_map (added_line book.now.variables) (active_at book.now.constraints place)) result }
 {
     let entry = book.constraint(place);
     if !entry.active {
         return Ok(());
     }
-    write_added(book, entry, out, buffer)
+    write_added(book, entry, writer)
 }

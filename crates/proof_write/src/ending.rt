@@ -3,23 +3,23 @@ ghost use Rattle.std.specs.Prelude.{◌≡◌, ◌<◌, ◌++◌, ℕ, List, All
 ghost use Rattle.palm_base.specs.declared.terms.Pair.{Pair as PairTerm};
 ghost use Rattle.palm_book.specs.Book.{IsUser};
 ghost use Rattle.palm_lang.specs.Reply.{fixed_text, found_line, spent_line};
+ghost use Rattle.palm_lang.specs.Writer.{Wrote};
 ghost use Rattle.palm_lang.specs.Writing.{Writes};
 ghost use Rattle.palm_model.specs.State.{HasEmpty, IsEmptyAt, present};
 ghost use Rattle.palm_search.specs.Calls.{search_state};
 ghost use Rattle.palm_search.specs.Search.{EndsWith};
-ghost use Rattle.proof_run.specs.Text.{Concludes, none_line};
+ghost use Rattle.proof_run.specs.Text.{Concludes};
 ghost use Rattle.proof_write.specs.Ending.{none_text};
 ghost use Rattle.proof_write.specs.Fitting.{FitsBook};
 ghost use Rattle.proof_write.specs.Numbers.{AreNumbers};
 
-use crate::lemma::write_lemma;
-use crate::notes::Notes;
+use crate::lemma::write_text_of_lemma;
+use crate::notes::{Notes, StepMemory};
+use crate::numbers::LemmaNumbers;
 use palm_base::{CidList, Sink, ValueList};
 use palm_engine::Engine;
 use palm_filter::Filter;
-use palm_lang::{
-    Book, Fixed, Lead, WriteStop, print_found, print_names, print_spent, write_fixed, write_line,
-};
+use palm_lang::{Book, Fixed, Lead, WriteStop, Writer};
 use palm_search::{Search, SearchEnd};
 
 /// Writes how the run ends: the lemma of the last conflict and its users, the values that were found, or the turns that
@@ -31,18 +31,48 @@ pub(crate) fn write_end<F: Filter, K: Sink>(
     end: &SearchEnd,
     notes: &mut Notes,
     out: &mut K,
+    buffer: &mut Vec<u8>,
 ) -> Result<(), WriteStop>
     requires fits { FitsBook book.now (search_state engine.now.state search.now) }
     requires ends { (budget : ℕ) × EndsWith budget (length search.now.journal) engine.now.state end.now }
     ensures { (undone : List PairTerm) → AreNumbers undone notes.old.numbers → (text : List ℕ)
         × Concludes book.now undone (search_state engine.now.state search.now) end.now text × Writes (K.state out.old) (K.state out.new) text result }
 {
+    let mut writer = Writer::new(out, buffer);
+    write_ending(
+        engine,
+        search,
+        book,
+        end,
+        &notes.numbers,
+        &mut notes.memory,
+        &mut writer,
+    )
+}
+
+/// Writes how the run ends, by the numbers of the lemmas so far.
+fn write_ending<F: Filter, K: Sink>(
+    engine: &Engine<F>,
+    search: &Search,
+    book: &Book,
+    end: &SearchEnd,
+    lemmas: &LemmaNumbers,
+    memory: &mut StepMemory,
+    writer: &mut Writer<'_, K>,
+) -> Result<(), WriteStop>
+    requires fits { FitsBook book.now (search_state engine.now.state search.now) }
+    requires ends { (budget : ℕ) × EndsWith budget (length search.now.journal) engine.now.state end.now }
+    ensures { (undone : List PairTerm) → AreNumbers undone lemmas.now → (text : List ℕ)
+        × Concludes book.now undone (search_state engine.now.state search.now) end.now text × Wrote K.state writer.old writer.new text result }
+{
     // What holds of every engine is known once its store is read.
     let _ = engine.store();
     match end {
-        SearchEnd::NoSolution(users) => write_none(engine, search, book, users, notes, out),
-        SearchEnd::Found(values) => write_found(book, values, out, &mut notes.buffer),
-        SearchEnd::Spent(turns) => write_spent(*turns, out, &mut notes.buffer),
+        SearchEnd::NoSolution(users) => {
+            write_none(engine, search, book, users, lemmas, memory, writer)
+        }
+        SearchEnd::Found(values) => write_found(book, values, writer),
+        SearchEnd::Spent(turns) => write_spent(*turns, writer),
     }
 }
 
@@ -52,71 +82,38 @@ fn write_none<F: Filter, K: Sink>(
     search: &Search,
     book: &Book,
     users: &CidList,
-    notes: &mut Notes,
-    out: &mut K,
+    lemmas: &LemmaNumbers,
+    memory: &mut StepMemory,
+    writer: &mut Writer<'_, K>,
 ) -> Result<(), WriteStop>
     requires fits { FitsBook book.now (search_state engine.now.state search.now) }
     requires empty { HasEmpty (present engine.now.state) }
     requires users { All (IsUser book.now) users.now }
-    ensures { (undone : List PairTerm) (x : ℕ) → AreNumbers undone notes.old.numbers → IsEmptyAt (present engine.now.state) x
-        → Writes (K.state out.old) (K.state out.new) (none_text book.now undone engine.now.state x users.now) result }
+    ensures { (undone : List PairTerm) (x : ℕ) → AreNumbers undone lemmas.now
+        → IsEmptyAt (present engine.now.state) x → Wrote K.state writer.old writer.new (none_text book.now undone engine.now.state x users.now) result }
 {
-    write_lemma(engine, search, book, &[], notes, out)?;
-    write_users(book, users, out, &mut notes.buffer)?;
-    write_fixed(Fixed::End, out, &mut notes.buffer)
-}
-
-/// Writes the names of the users that have no solution.
-fn write_users<K: Sink>(
-    book: &Book,
-    users: &CidList,
-    out: &mut K,
-    buffer: &mut Vec<u8>,
-) -> Result<(), WriteStop>
-    requires { All (IsUser book.now) users.now }
-    ensures { Writes (K.state out.old) (K.state out.new) (none_line book.now users.now) result }
-{
-    write_line!(out, buffer, print_names(book, Lead::NoSolution, users))
+    write_text_of_lemma(engine, search, book, &[], lemmas, memory, writer)?;
+    writer.names(book, Lead::NoSolution, users)?;
+    writer.word(Fixed::End)
 }
 
 /// Writes a value for each variable.
 fn write_found<K: Sink>(
     book: &Book,
     values: &ValueList,
-    out: &mut K,
-    buffer: &mut Vec<u8>,
+    writer: &mut Writer<'_, K>,
 ) -> Result<(), WriteStop>
     requires { length values.now ≡ length book.now.variables }
-    ensures { Writes (K.state out.old) (K.state out.new) (found_line book.now.variables values.now ++ fixed_text Fixed.End) result }
+    ensures { Wrote K.state writer.old writer.new (found_line book.now.variables values.now ++ fixed_text Fixed.End) result }
 {
-    write_values(book, values, out, buffer)?;
-    write_fixed(Fixed::End, out, buffer)
-}
-
-/// Writes the line of a value for each variable.
-fn write_values<K: Sink>(
-    book: &Book,
-    values: &ValueList,
-    out: &mut K,
-    buffer: &mut Vec<u8>,
-) -> Result<(), WriteStop>
-    requires { length values.now ≡ length book.now.variables }
-    ensures { Writes (K.state out.old) (K.state out.new) (found_line book.now.variables values.now) result }
-{
-    write_line!(out, buffer, print_found(book, values))
+    writer.found(book, values)?;
+    writer.word(Fixed::End)
 }
 
 /// Writes how many turns were taken.
-fn write_spent<K: Sink>(turns: u64, out: &mut K, buffer: &mut Vec<u8>) -> Result<(), WriteStop>
-    ensures { Writes (K.state out.old) (K.state out.new) (spent_line turns None ++ fixed_text Fixed.End) result }
+fn write_spent<K: Sink>(turns: u64, writer: &mut Writer<'_, K>) -> Result<(), WriteStop>
+    ensures { Wrote K.state writer.old writer.new (spent_line turns None ++ fixed_text Fixed.End) result }
 {
-    write_turns(turns, out, buffer)?;
-    write_fixed(Fixed::End, out, buffer)
-}
-
-/// Writes the line of how many turns were taken.
-fn write_turns<K: Sink>(turns: u64, out: &mut K, buffer: &mut Vec<u8>) -> Result<(), WriteStop>
-    ensures { Writes (K.state out.old) (K.state out.new) (spent_line turns None) result }
-{
-    write_line!(out, buffer, print_spent(turns, None))
+    writer.spent(turns, None)?;
+    writer.word(Fixed::End)
 }

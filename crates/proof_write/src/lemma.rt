@@ -1,13 +1,10 @@
 //! Writing a lemma: the decisions that it rests on, the steps that the emptied variable needs, and that variable.
 ghost use Rattle.std.specs.Prelude.{◌≡◌, ◌<◌, ℕ, List, [], ◌∷◌, All, Contains, length, flat_map};
 ghost use Rattle.palm_base.specs.declared.terms.Pair.{Pair as PairTerm};
-ghost use Rattle.palm_book.specs.Book.{HasNumber, number_name};
-ghost use Rattle.palm_cert.specs.Certificate.{step_words};
 ghost use Rattle.palm_cert.specs.Needs.{AreSteps, removals_at};
-ghost use Rattle.palm_lang.specs.Reply.{ended};
+ghost use Rattle.palm_lang.specs.Writer.{Wrote};
 ghost use Rattle.palm_lang.specs.Writing.{Writes};
 ghost use Rattle.palm_model.specs.State.{HasEmpty, IsEmptyAt, present};
-ghost use Rattle.palm_read.specs.Words.{spaced};
 ghost use Rattle.palm_search.specs.Calls.{search_state};
 ghost use Rattle.proof_run.specs.Lemma.{held_decisions, lemma_line, step_line, text_of_lemma, wiped_by, wipe_line};
 ghost use Rattle.proof_write.specs.Fitting.{FitsBook, IsWritable};
@@ -15,13 +12,14 @@ ghost use Rattle.proof_write.specs.Lines.{assumed_line, given_line};
 ghost use Rattle.proof_write.specs.Numbers.{AreNumbers};
 
 use crate::lines::{put_assumed, put_given, put_lemma, put_wipe};
-use crate::notes::Notes;
+use crate::notes::{Notes, StepMemory};
+use crate::numbers::LemmaNumbers;
 use palm_base::{Cid, Pair, Sink, Var};
-use palm_cert::{collect_numbers, put_step};
+use palm_cert::{collect_numbers, write_removal};
 use palm_engine::Engine;
 use palm_explain::ExplainStore;
 use palm_filter::Filter;
-use palm_lang::{Book, WriteStop, write_line};
+use palm_lang::{Book, WriteStop, Writer, write_line};
 use palm_search::Search;
 
 /// Writes the lemma of the emptied variable: of the decisions that are held, and of the removals that it needs. The numbers
@@ -33,12 +31,40 @@ pub(crate) fn write_lemma<F: Filter, K: Sink>(
     held: &[Cid],
     notes: &mut Notes,
     out: &mut K,
+    buffer: &mut Vec<u8>,
 ) -> Result<(), WriteStop>
     requires fits { FitsBook book.now (search_state engine.now.state search.now) }
     requires empty { HasEmpty (present engine.now.state) }
     ensures lemma { (undone : List PairTerm) (x : ℕ) → AreNumbers undone notes.old.numbers → IsEmptyAt (present engine.now.state) x
         → Writes (K.state out.old) (K.state out.new) (text_of_lemma book.now undone (held_decisions search.now.decisions held.now) (wiped_by engine.now.state x) x) result }
     ensures numbers { notes.new.numbers ≡ notes.old.numbers }
+{
+    let mut writer = Writer::new(out, buffer);
+    write_text_of_lemma(
+        engine,
+        search,
+        book,
+        held,
+        &notes.numbers,
+        &mut notes.memory,
+        &mut writer,
+    )
+}
+
+/// Writes the lines of the lemma, by the numbers of earlier ones.
+pub(crate) fn write_text_of_lemma<F: Filter, K: Sink>(
+    engine: &Engine<F>,
+    search: &Search,
+    book: &Book,
+    held: &[Cid],
+    lemmas: &LemmaNumbers,
+    memory: &mut StepMemory,
+    writer: &mut Writer<'_, K>,
+) -> Result<(), WriteStop>
+    requires fits { FitsBook book.now (search_state engine.now.state search.now) }
+    requires empty { HasEmpty (present engine.now.state) }
+    ensures { (undone : List PairTerm) (x : ℕ) → AreNumbers undone lemmas.now → IsEmptyAt (present engine.now.state) x
+        → Wrote K.state writer.old writer.new (text_of_lemma book.now undone (held_decisions search.now.decisions held.now) (wiped_by engine.now.state x) x) result }
 {
     // What holds of every engine and of every log is known once they are read.
     let _ = engine.store();
@@ -47,10 +73,17 @@ pub(crate) fn write_lemma<F: Filter, K: Sink>(
     let Some(var) = engine.empty_variable() else {
         unreachable!();
     };
-    write_front(book, search.decisions(), held, out, &mut notes.buffer)?;
-    log.needed(var, book.initial(var).as_slice(), &mut notes.steps)?;
-    write_steps(book, log, notes, out)?;
-    write_wipe(book, var, out, &mut notes.buffer)
+    write_front(book, search.decisions(), held, writer)?;
+    log.needed(var, book.initial(var).as_slice(), &mut memory.steps)?;
+    write_steps(
+        book,
+        log,
+        &memory.steps,
+        lemmas,
+        &mut memory.reasons,
+        writer,
+    )?;
+    write_wipe(book, var, writer)
 }
 
 /// Writes the first line of a lemma.
@@ -58,60 +91,57 @@ fn write_front<K: Sink>(
     book: &Book,
     decisions: &[Pair],
     held: &[Cid],
-    out: &mut K,
-    buffer: &mut Vec<u8>,
+    writer: &mut Writer<'_, K>,
 ) -> Result<(), WriteStop>
     requires { All (λ p. p.var < length book.now.variables) decisions.now }
-    ensures { Writes (K.state out.old) (K.state out.new) (lemma_line book.now.variables (held_decisions decisions.now held.now)) result }
+    ensures { Wrote K.state writer.old writer.new (lemma_line book.now.variables (held_decisions decisions.now held.now)) result }
 {
-    write_line!(out, buffer, put_lemma(book, decisions, held))
+    write_line!(writer, put_lemma(book, decisions, held))
 }
 
-/// Writes the steps, in the order of the log.
+/// Writes the steps, in the order of the log, the reasons of one after another in the same memory.
 fn write_steps<K: Sink>(
     book: &Book,
     log: &ExplainStore,
-    notes: &mut Notes,
-    out: &mut K,
+    steps: &[usize],
+    lemmas: &LemmaNumbers,
+    reasons: &mut Vec<usize>,
+    writer: &mut Writer<'_, K>,
 ) -> Result<(), WriteStop>
-    requires steps { AreSteps log.now.log notes.old.steps.items }
+    requires steps { AreSteps log.now.log steps.now }
     requires logged { All (IsWritable book.now) log.now.log }
-    ensures text { (undone : List PairTerm) → AreNumbers undone notes.old.numbers → Writes (K.state out.old) (K.state out.new)
-        (flat_map (step_line book.now undone (removals_at log.now.log notes.old.steps.items)) (removals_at log.now.log notes.old.steps.items)) result }
-    ensures numbers { notes.new.numbers ≡ notes.old.numbers }
+    ensures { (undone : List PairTerm) → AreNumbers undone lemmas.now → Wrote K.state writer.old writer.new
+        (flat_map (step_line book.now undone (removals_at log.now.log steps.now)) (removals_at log.now.log steps.now)) result }
 {
-    for index in 0..notes.steps.len() {
-        write_removal(book, log, notes.steps[index], notes, out)?;
+    for place in steps {
+        write_step(book, log, steps, *place, lemmas, reasons, writer)?;
     }
     Ok(())
 }
 
 /// Writes the removal at a place as a step, and why it was made.
-fn write_removal<K: Sink>(
+fn write_step<K: Sink>(
     book: &Book,
     log: &ExplainStore,
+    steps: &[usize],
     place: usize,
-    notes: &mut Notes,
-    out: &mut K,
+    lemmas: &LemmaNumbers,
+    reasons: &mut Vec<usize>,
+    writer: &mut Writer<'_, K>,
 ) -> Result<(), WriteStop>
-    requires steps { AreSteps log.now.log notes.old.steps.items }
+    requires steps { AreSteps log.now.log steps.now }
     requires logged { All (IsWritable book.now) log.now.log }
-    requires step { Contains notes.old.steps.items place }
-    ensures text { (undone : List PairTerm) → AreNumbers undone notes.old.numbers → Writes (K.state out.old) (K.state out.new)
-        (flat_map (step_line book.now undone (removals_at log.now.log notes.old.steps.items)) (removals_at log.now.log (place ∷ []))) result }
-    ensures numbers { notes.new.numbers ≡ notes.old.numbers }
-    ensures steps { notes.new.steps ≡ notes.old.steps }
+    requires step { Contains steps.now place }
+    ensures { (undone : List PairTerm) → AreNumbers undone lemmas.now
+        → Wrote K.state writer.old writer.new (flat_map (step_line book.now undone (removals_at log.now.log steps.now)) (removals_at log.now.log (place ∷ []))) result }
 {
     let pair = log.pair_at(place);
     match log.by_at(place) {
-        Cid::Decide(_) => write_assumed(book, &pair, out, &mut notes.buffer),
-        Cid::Not(negated) => {
-            let number = notes.numbers.number_of(&negated);
-            write_given(book, &pair, number, out, &mut notes.buffer)
-        }
+        Cid::Decide(_) => write_assumed(book, &pair, writer),
+        Cid::Not(negated) => write_given(book, &pair, lemmas.number_of(&negated), writer),
         Cid::User(by) => {
-            collect_numbers(log, &notes.steps, place, &mut notes.reasons)?;
-            write_by(book, &pair, by, &notes.reasons, out, &mut notes.buffer)
+            collect_numbers(log, steps, place, reasons)?;
+            write_removal(book, &pair, by, reasons, writer)
         }
     }
 }
@@ -120,13 +150,12 @@ fn write_removal<K: Sink>(
 fn write_assumed<K: Sink>(
     book: &Book,
     pair: &Pair,
-    out: &mut K,
-    buffer: &mut Vec<u8>,
+    writer: &mut Writer<'_, K>,
 ) -> Result<(), WriteStop>
     requires { pair.now.var < length book.now.variables }
-    ensures { Writes (K.state out.old) (K.state out.new) (assumed_line book.now.variables pair.now) result }
+    ensures { Wrote K.state writer.old writer.new (assumed_line book.now.variables pair.now) result }
 {
-    write_line!(out, buffer, put_assumed(book, pair))
+    write_line!(writer, put_assumed(book, pair))
 }
 
 /// Writes a removal by the negation that a lemma gave.
@@ -134,40 +163,18 @@ fn write_given<K: Sink>(
     book: &Book,
     pair: &Pair,
     number: u64,
-    out: &mut K,
-    buffer: &mut Vec<u8>,
+    writer: &mut Writer<'_, K>,
 ) -> Result<(), WriteStop>
     requires { pair.now.var < length book.now.variables }
-    ensures { Writes (K.state out.old) (K.state out.new) (given_line book.now.variables pair.now number) result }
+    ensures { Wrote K.state writer.old writer.new (given_line book.now.variables pair.now number) result }
 {
-    write_line!(out, buffer, put_given(book, pair, number))
-}
-
-/// Writes a removal by a user's constraint, for reasons that steps with these numbers proved.
-fn write_by<K: Sink>(
-    book: &Book,
-    pair: &Pair,
-    by: u32,
-    numbers: &[usize],
-    out: &mut K,
-    buffer: &mut Vec<u8>,
-) -> Result<(), WriteStop>
-    requires variable { pair.now.var < length book.now.variables }
-    requires constraint { HasNumber book.now by }
-    ensures { Writes (K.state out.old) (K.state out.new) (ended (spaced (step_words book.now.variables pair.now (number_name book.now.constraints by) numbers.now))) result }
-{
-    write_line!(out, buffer, put_step(book, pair, by, numbers))
+    write_line!(writer, put_given(book, pair, number))
 }
 
 /// Writes the last line of a lemma.
-fn write_wipe<K: Sink>(
-    book: &Book,
-    var: Var,
-    out: &mut K,
-    buffer: &mut Vec<u8>,
-) -> Result<(), WriteStop>
+fn write_wipe<K: Sink>(book: &Book, var: Var, writer: &mut Writer<'_, K>) -> Result<(), WriteStop>
     requires { var < length book.now.variables }
-    ensures { Writes (K.state out.old) (K.state out.new) (wipe_line book.now.variables var) result }
+    ensures { Wrote K.state writer.old writer.new (wipe_line book.now.variables var) result }
 {
-    write_line!(out, buffer, put_wipe(book, var))
+    write_line!(writer, put_wipe(book, var))
 }

@@ -12,4 +12,4 @@ mod proving;
 
 pub use palm_lang::WriteStop as ProofStop;
 pub use palm_search::SearchEnd as ProofEnd;
-pub use proving::prove;
+pub use proving::{prove, prove_by};

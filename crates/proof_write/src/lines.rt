@@ -2,20 +2,11 @@
 ghost use Rattle.std.specs.Prelude.{◌≡◌, ◌<◌, ◌++◌, All, codes, length, map, OnOk};
 ghost use Rattle.palm_read.specs.Words.{after_spaces};
 ghost use Rattle.proof_run.specs.Lemma.{held_decisions, lemma_line, pair_word, wipe_line};
-ghost use Rattle.proof_run.specs.Text.{header_line};
 ghost use Rattle.proof_write.specs.Lines.{assumed_line, given_line};
 
 use palm_base::{Cid, NoMemory, Pair, Var, push_int};
 use palm_lang::{Book, put_spaced_int, put_spaced_name, put_spaced_value, put_text};
 use palm_search::holds;
-
-/// `palm-proof 1`
-pub(crate) fn put_header(out: &mut Vec<u8>) -> Result<(), NoMemory>
-    ensures { OnOk result (out.new.items ≡ out.old.items ++ header_line) }
-{
-    put_text("palm-proof 1\n", out)?;
-    Ok(())
-}
 
 /// ` NAME=VALUE`
 fn put_pair(book: &Book, pair: &Pair, out: &mut Vec<u8>) -> Result<(), NoMemory>

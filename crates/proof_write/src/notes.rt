@@ -15,12 +15,17 @@ use std::alloc::Global;
 pub(crate) struct Notes {
     /// Which lemma gave which negation.
     pub(crate) numbers: LemmaNumbers,
+    /// The steps of the lemma.
+    pub(crate) memory: StepMemory,
+}
+
+/// Memory for the steps of one lemma after another.
+#[derive(Drop)]
+pub(crate) struct StepMemory {
     /// The places in the log of the removals that are steps of the lemma, rising: the first step has the number 1.
     pub(crate) steps: Vec<usize>,
     /// The numbers of the steps that proved the reasons of one.
     pub(crate) reasons: Vec<usize>,
-    /// A line.
-    pub(crate) buffer: Vec<u8>,
 }
 
 impl Notes {
@@ -30,9 +35,10 @@ impl Notes {
     {
         Notes {
             numbers: LemmaNumbers::new(alloc),
-            steps: Vec::new(alloc),
-            reasons: Vec::new(alloc),
-            buffer: Vec::new(alloc),
+            memory: StepMemory {
+                steps: Vec::new(alloc),
+                reasons: Vec::new(alloc),
+            },
         }
     }
 

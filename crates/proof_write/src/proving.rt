@@ -8,12 +8,12 @@ ghost use Rattle.palm_base.specs.Streams.{IsSameSink};
 ghost use Rattle.palm_events.specs.Scoped.{HasScopedReasons};
 ghost use Rattle.palm_model.specs.State.{IsValid};
 ghost use Rattle.palm_search.specs.Breaking.{BreaksOff, IsCutOff};
-ghost use Rattle.palm_search.specs.Calls.{search_state};
 ghost use Rattle.palm_search.specs.Following.{GuideFollows};
 ghost use Rattle.palm_search.specs.Kept.{HasDecisions};
 ghost use Rattle.palm_search.specs.Leaves.{Counts, Leaves, Lent};
+ghost use Rattle.palm_search.specs.Machine.{GivesBack, HasRunOn, state_of};
 ghost use Rattle.palm_search.specs.Stopping.{BreaksOffBy, GuideStops, IsCutOffBy};
-ghost use Rattle.proof_write.specs.Proving.{HasProved, HasRun, HasWrittenSoFar};
+ghost use Rattle.proof_write.specs.Proving.{HasProved, HasRun, HasWrittenSoFar, IsListedInBook};
 
 use crate::declarations::write_declarations;
 use crate::ending::write_end;
@@ -26,7 +26,7 @@ use palm_engine::Engine;
 use palm_filter::Filter;
 use palm_guide::Guide;
 use palm_lang::WriteStop;
-use palm_search::{Next, Search, SearchEnd, next_of, undo_latest};
+use palm_search::{Machine, Next, Search, SearchEnd};
 use std::alloc::Global;
 use std::sync::ledger::Ledger;
 
@@ -62,67 +62,116 @@ pub fn prove<F: Filter, G: Guide, O: Order, K: Sink, L: Ledger>(
     ensures counts { Counts engine.old engine.new steps.old steps.new }
     ensures lent { Lent guide.old guide.new order.old order.new }
 {
+    let mut machine = Machine {
+        alloc,
+        engine,
+        search,
+        guide,
+        order,
+        steps,
+    };
+    prove_by(&mut machine, book, budget, out)
+}
+
+/// Searches and writes as [`prove`] does, with what the machine was lent.
+pub fn prove_by<F: Filter, G: Guide, O: Order, K: Sink, L: Ledger>(
+    machine: &mut Machine<F, G, O, L>,
+    book: &Book,
+    budget: u64,
+    out: &mut K,
+) -> Result<SearchEnd, WriteStop>
+    requires fresh { machine.old.search.now ≡ record { decisions = []; journal = [] } }
+    requires listed { IsListedInBook book.now machine.old.engine.now.state }
+    ensures ok { IfOk result (λ end. HasProved (GuideFollows G.answers G.hears G.state)
+        (OrderFollows O.answers O.hears O.state)
+        machine.old.guide.now machine.new.guide.now machine.old.order.now machine.new.order.now
+        budget book.now machine.old.engine.now.state machine.new.search.now.journal end machine.new.engine.now.state
+        (K.state out.old).written (K.state out.new).written) }
+    ensures holds { IfOk result (IsTrueOf machine.old.engine.now.state budget) }
+    ensures err { OnErr result (BreaksOff (is_some machine.old.guide.now) (is_some machine.old.order.now)
+        budget machine.old.engine.now.state machine.new.search.now.journal machine.new.engine.now.state) }
+    ensures stopped { OnErr result (BreaksOffBy (GuideFollows G.answers G.hears G.state)
+        (GuideStops G.answers G.hears G.state)
+        (OrderFollows O.answers O.hears O.state) (OrderAnswers O.answers O.state)
+        machine.old.guide.now machine.new.guide.now machine.old.order.now machine.new.order.now
+        budget machine.old.engine.now.state machine.new.search.now.journal machine.new.engine.now.state) }
+    ensures front { IfErr result (λ stop. HasWrittenSoFar stop book.now
+        (is_some machine.old.guide.now) (is_some machine.old.order.now)
+        budget machine.old.engine.now.state machine.new.search.now.journal
+        (K.state out.old).written (K.state out.new).written) }
+    ensures counted { IsCounted (K.state out.old).faults (K.state out.new).faults result }
+    ensures sink { IsSameSink (K.state out.old) (K.state out.new) result }
+    ensures gives { GivesBack machine.old machine.new result }
+{
     // What holds of every book is known once its variables are counted.
     let _ = book.variables();
-    let end = run(
-        alloc, engine, search, book, guide, order, budget, out, steps,
-    );
-    search.close(engine);
+    let end = run(machine, book, budget, out);
+    machine.close();
     let end = end?;
-    engine.settle(order, None, steps)?;
+    machine.settle()?;
     Ok(end)
 }
 
 /// Writes the declarations, settles, and takes turns until the run ends, each undoing behind its lemma; then how it ends.
 fn run<F: Filter, G: Guide, O: Order, K: Sink, L: Ledger>(
-    alloc: Global,
-    engine: &mut Engine<F>,
-    search: &mut Search,
+    machine: &mut Machine<F, G, O, L>,
     book: &Book,
-    guide: &mut Option<G>,
-    order: &mut Option<O>,
     budget: u64,
     out: &mut K,
-    steps: &mut Steps<L>,
 ) -> Result<SearchEnd, WriteStop>
-    requires fresh { search.old ≡ record { decisions = []; journal = [] } }
-    requires initial { engine.old.state.initial ≡ initial_of book.now }
-    requires active { engine.old.state.active ≡ active_of book.now }
-    ensures ok { IfOk result (λ end. HasRun (GuideFollows G.answers G.hears G.state) (OrderFollows O.answers O.hears O.state) guide.old guide.new order.old order.new
-        budget book.now engine.old.state search.new.journal end (search_state engine.new.state search.new) (K.state out.old).written (K.state out.new).written) }
-    ensures err { OnErr result (IsCutOff (is_some guide.old) (is_some order.old) budget engine.old.state search.new.journal engine.new.state) }
-    ensures stopped { OnErr result (IsCutOffBy (GuideFollows G.answers G.hears G.state) (GuideStops G.answers G.hears G.state) (OrderFollows O.answers O.hears O.state) (OrderAnswers O.answers O.state)
-        guide.old guide.new order.old order.new budget engine.old.state search.new.journal engine.new.state) }
-    ensures front { IfErr result (λ stop. HasWrittenSoFar stop book.now (is_some guide.old) (is_some order.old) budget engine.old.state search.new.journal (K.state out.old).written (K.state out.new).written) }
+    requires fresh { machine.old.search.now ≡ record { decisions = []; journal = [] } }
+    requires listed { IsListedInBook book.now machine.old.engine.now.state }
+    ensures ok { IfOk result (λ end. HasRun (GuideFollows G.answers G.hears G.state)
+        (OrderFollows O.answers O.hears O.state)
+        machine.old.guide.now machine.new.guide.now machine.old.order.now machine.new.order.now
+        budget book.now machine.old.engine.now.state machine.new.search.now.journal end (state_of machine.new)
+        (K.state out.old).written (K.state out.new).written) }
+    ensures err { OnErr result (IsCutOff (is_some machine.old.guide.now) (is_some machine.old.order.now)
+        budget machine.old.engine.now.state machine.new.search.now.journal machine.new.engine.now.state) }
+    ensures stopped { OnErr result (IsCutOffBy (GuideFollows G.answers G.hears G.state)
+        (GuideStops G.answers G.hears G.state)
+        (OrderFollows O.answers O.hears O.state) (OrderAnswers O.answers O.state)
+        machine.old.guide.now machine.new.guide.now machine.old.order.now machine.new.order.now
+        budget machine.old.engine.now.state machine.new.search.now.journal machine.new.engine.now.state) }
+    ensures front { IfErr result (λ stop. HasWrittenSoFar stop book.now
+        (is_some machine.old.guide.now) (is_some machine.old.order.now)
+        budget machine.old.engine.now.state machine.new.search.now.journal
+        (K.state out.old).written (K.state out.new).written) }
     ensures counted { IsCounted (K.state out.old).faults (K.state out.new).faults result }
     ensures sink { IsSameSink (K.state out.old) (K.state out.new) result }
-    ensures decisions { HasDecisions (search_state engine.new.state search.new) }
-    ensures counts { Counts engine.old engine.new steps.old steps.new }
-    ensures lent { Lent guide.old guide.new order.old order.new }
-    ensures before { IsValid engine.old.state }
-    ensures scoped { HasScopedReasons engine.old.state }
+    ensures ran { HasRunOn machine.old machine.new }
+    ensures scoped { HasScopedReasons machine.old.engine.now.state }
 {
     // What holds of every engine is known once its store is read, and that its count of questions fits once that is read.
-    let _store = engine.store();
-    let _checks = engine.checks();
-    let mut notes = Notes::new(alloc);
-    write_declarations(book, out, &mut notes.buffer)?;
-    engine.settle(order, None, steps)?;
+    let _store = machine.engine.store();
+    let _checks = machine.engine.checks();
+    let mut printed = Vec::new(machine.alloc);
+    let mut notes = Notes::new(machine.alloc);
+    write_declarations(book, out, &mut printed)?;
+    machine.settle()?;
     loop {
-        match next_of(alloc, engine, search, budget)? {
+        match machine.next(budget)? {
             Next::Ended(end) => {
-                write_end(engine, search, book, &end, &mut notes, out)?;
+                write_end(machine.engine, machine.search, book, &end, &mut notes, out, &mut printed)?;
                 return Ok(end);
             }
             Next::Decide => {
-                search.decide(engine, guide)?;
+                machine.decide()?;
             }
             Next::Undo(conflict) => {
-                write_lemma(engine, search, book, conflict.as_slice(), &mut notes, out)?;
-                undo_latest(alloc, engine, search, guide, &conflict)?;
-                notes.note_last(search.journal())?;
+                write_lemma(
+                    machine.engine,
+                    machine.search,
+                    book,
+                    conflict.as_slice(),
+                    &mut notes,
+                    out,
+                    &mut printed,
+                )?;
+                machine.undo_latest(&conflict)?;
+                notes.note_last(machine.search.journal())?;
             }
         }
-        engine.settle(order, None, steps)?;
+        machine.settle()?;
     }
 }

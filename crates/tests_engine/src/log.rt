@@ -160,3 +160,73 @@ fn a_withdrawal_takes_what_rests_on_the_constraint(rt: HostRuntime) -> Result<()
     assert_kept_anew(&rt, rt.alloc())?;
     Ok(())
 }
+
+/// Takes 2 out of x, 1 out of z, 2 out of y for the first, 2 out of z, and 1 out of y for the 2 of y and of z.
+fn remove_five(store: &mut DomainStore, log: &mut ExplainStore) -> Result<(), NoMemory>
+    requires { LacksExactly store.old (log_pairs log.old.log) }
+    ensures { LacksExactly store.new (log_pairs log.new.log) }
+{
+    remove(store, log, &pair(0, 2), 1, &[])?;
+    remove(store, log, &pair(2, 1), 2, &[])?;
+    remove(store, log, &pair(1, 2), 3, &[pair(0, 2)])?;
+    remove(store, log, &pair(2, 2), 4, &[])?;
+    remove(store, log, &pair(1, 1), 5, &[pair(1, 2), pair(2, 2)])
+}
+
+/// Asserts at which places those removals stand on which the removals of these values of the variable rest.
+fn assert_needed(
+    rt: &impl Abort,
+    alloc: Global,
+    log: &ExplainStore,
+    var: u32,
+    values: &[Value],
+    expected: &[usize],
+) -> Result<(), NoMemory> {
+    let mut places = vec![in alloc; 7]?;
+    log.needed(Var(var), values, &mut places)?;
+    assert_eq!(rt;
+        places.as_slice(),
+        expected,
+        "values {values:?} of variable {var}"
+    );
+    Ok(())
+}
+
+/// Asserts what each of the five removals needs, and values together, and a value that is there.
+fn assert_each_needed(rt: &impl Abort, alloc: Global, log: &ExplainStore) -> Result<(), NoMemory> {
+    assert_needed(rt, alloc, log, 0, &[Value(2)], &[0])?;
+    assert_needed(rt, alloc, log, 1, &[Value(2)], &[0, 2])?;
+    assert_needed(rt, alloc, log, 1, &[Value(1)], &[0, 2, 3, 4])?;
+    assert_needed(rt, alloc, log, 2, &[Value(1), Value(2)], &[1, 3])?;
+    assert_needed(rt, alloc, log, 0, &[Value(1)], &[])
+}
+
+/// The same of a log that is filled.
+fn assert_needed_of_five(
+    rt: &impl Abort,
+    alloc: Global,
+    store: &mut DomainStore,
+    log: &mut ExplainStore,
+) -> Result<(), NoMemory>
+    requires store { store.old ≡ [] }
+    requires log { log.old.log ≡ [] }
+{
+    add_three(store)?;
+    assert_needed(rt, alloc, log, 0, &[Value(1), Value(2)], &[])?;
+    remove_five(store, log)?;
+    assert_eq!(rt; log.removals(), 5);
+    assert_each_needed(rt, alloc, log)
+}
+
+/// The same of a new store and a new log.
+fn assert_needed_anew(rt: &impl Abort, alloc: Global) -> Result<(), NoMemory> {
+    let mut store = DomainStore::new(alloc);
+    let mut log = ExplainStore::new(alloc);
+    assert_needed_of_five(rt, alloc, &mut store, &mut log)
+}
+
+#[test]
+fn a_removal_needs_its_reasons_and_what_they_need(rt: HostRuntime) -> Result<(), Fail> {
+    assert_needed_anew(&rt, rt.alloc())?;
+    Ok(())
+}

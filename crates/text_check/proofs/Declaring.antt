@@ -1,13 +1,12 @@
 -- What is answered to a variable and to a constraint.
 use Rattle.std.proofs.Common.{◌≡◌, ℕ, ◌≤◌, Some, None, List, length, Any, ◌⊎◌, inl, inr, sym, ap, ◌∙◌, subst}
-use Rattle.palm_book.specs.Book.{Contents, HasConstraint, HasVariable, with_listed, with_variable}
+use Rattle.palm_book.specs.Book.{Contents, HasConstraint, HasVariable, with_listed}
 use Rattle.palm_book.specs.Named.{IsUnknownName, Resolves}
-use Rattle.palm_book.specs.declared.limits.TheConstants.{MOST_CONSTRAINTS, MOST_VARIABLES}
+use Rattle.palm_book.specs.declared.limits.TheConstants.{MOST_CONSTRAINTS}
 use Rattle.palm_model.specs.declared.constraint.Con.{Con}
-use Rattle.palm_read.specs.Domain.{values_in}
 use Rattle.palm_read.specs.Limits.{IsBeyond, names_of}
 use Rattle.palm_read.specs.declared.line.DomainText.{DomainText}
-use Rattle.palm_read.specs.declared.line.Line.TheVariants.{Add, Var}
+use Rattle.palm_read.specs.declared.line.Line.TheVariants.{Add}
 use Rattle.palm_read.specs.declared.line.Shape.{Shape}
 use Rattle.palm_claim.specs.Own.{Meets, Own, family_of}
 use Rattle.palm_claim.specs.Taking.{TakesStatement}
@@ -20,23 +19,6 @@ module _ {D P V : Type 0} (own : Own D P V) (d e : D) (book : Contents) (is : ow
     module _ (may : own.MayStand d (Variable name domain)) where
       pub variable_misdeclared : HasVariable book name → TakesStatement (family_of own) d (Variable name domain) (Some Misdeclared) e
       variable_misdeclared has = first_misdeclared (Meets own d (Variable name domain)) (λ n. n may) (subst (λ (b : Contents). HasVariable b name) (sym is) has)
-
-      module _ (fresh : HasVariable book name → ⊥) where
-        still_fresh : HasVariable (own.book d) name → ⊥
-        still_fresh has = fresh (subst (λ (b : Contents). HasVariable b name) is has)
-
-        pub variable_beyond : IsBeyond (Var name domain) ⊎ (MOST_VARIABLES ≤ length book.variables) → TakesStatement (family_of own) d (Variable name domain) (Some Beyond) e
-        variable_beyond beyond =
-            first_beyond (Meets own d (Variable name domain)) (λ n. n may) still_fresh
-            (subst (λ (b : Contents). IsBeyond (Var name domain) ⊎ (MOST_VARIABLES ≤ length b.variables)) (sym is) beyond)
-
-        pub variable_taken : (IsBeyond (Var name domain) → ⊥) → (MOST_VARIABLES ≤ length book.variables → ⊥) → e ≡ own.declared d (with_variable book name (values_in domain))
-            → TakesStatement (family_of own) d (Variable name domain) None e
-        variable_taken within room leads = (
-          without_cause (Meets own d (Variable name domain)) (λ n. n may) still_fresh
-              (λ b. elim b [ inl h ↦ within h | inr h ↦ room (subst (λ (c : Contents). MOST_VARIABLES ≤ length c.variables) is h) ]) (λ h. h) (λ h. h) (λ h. h),
-          leads ∙ ap (λ (b : Contents). own.declared d (with_variable b name (values_in domain))) (sym is),
-        )
 
   module _ (shape : Shape) where
     module _ (may : own.MayStand d (Constraint name shape)) where

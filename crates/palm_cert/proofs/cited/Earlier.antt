@@ -88,11 +88,6 @@ module _ (earlier : List Removal) (r : Removal) (later : List Removal) (linked :
       (λ x v over has. without_grows initial reasons r.reasons reason_numbered x v has)
       (subst (λ (c : Con). LacksSupport (without initial r.reasons) c r.pair.var r.pair.value) (sym is) right.lacks))
 
-  -- and where that is a constraint of the book, the removal is right under its name
-  pub right_behind : (book : Contents) (initial : Domains) (active : List Active) (right : IsRightRemoval initial active earlier r) (c : BookCon) → initial ≡ initial_of book
-      → Contains book.constraints c → c.con ≡ right.owner.con → IsRight book (log_pairs earlier) r.pair c.name (numbers_of (earlier ++ r ∷ later) r.reasons)
-  right_behind book initial active right c same listed is = record { owner = c; listed = listed; named = refl; lacks = lacks_behind book initial active right c.con same is }
-
 -- a constraint of a book stands under the name of its user's id
 pub user_named : (book : Contents) → IsBook book → (c : BookCon) → Contains book.constraints c → (by : Cid) → User c.number ≡ by → c.name ≡ user_name book.constraints by
 user_named book is c listed by same =

@@ -120,9 +120,6 @@ pub record Collects (steps : List Removal) (numbers : List ℕ) (pairs : List Pa
   pub sound : (k : ℕ) → Contains numbers k → (p : Pair) × Contains pairs p × IsNumberOf steps k p
   pub whole : (p : Pair) → Contains pairs p → (k : ℕ) × Contains numbers k × IsNumberOf steps k p
 
-pub collects_none : (steps : List Removal) → Collects steps [] []
-collects_none steps = record { sound = λ k m. absurd (member_nil k m); whole = λ p m. absurd (member_nil p m) }
-
 pub collects_more : (steps : List Removal) (numbers : List ℕ) (pairs : List Pair) (k : ℕ) (p : Pair) → Collects steps numbers pairs → IsNumberOf steps k p → Collects steps (numbers ++ k ∷ []) (pairs ++ p ∷ [])
 collects_more steps numbers pairs k p c num = record {
   sound = λ j m. elim (Contains-push_cases numbers k j m) [

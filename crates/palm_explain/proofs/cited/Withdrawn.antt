@@ -15,7 +15,7 @@ use Rattle.palm_events.proofs.cited.Logs.{logged, pair_logged, left_member, left
 use Rattle.palm_model.proofs.cited.Supports.{not_true}
 use Rattle.palm_explain.specs.Explanations.{IsLinked}
 use Rattle.palm_explain.proofs.Linked.{once, pairs_more}
-use Rattle.palm_explain.proofs.Naming.{cids_left, left_cids}
+use Rattle.palm_explain.proofs.NamedSome.{cids_left, left_cids}
 
 -- ---- two withdrawals
 

@@ -89,11 +89,3 @@ writes_front s0 s1 x y stop a = record {
 -- the same text
 pub writes_text : {T : Type 0} (s0 s1 : SinkState) (x y : List ℕ) (r : Result T WriteStop) → x ≡ y → Writes s0 s1 x r → Writes s0 s1 y r
 writes_text {T} s0 s1 x y r e a = subst (λ (text : List ℕ). Writes {T = T} s0 s1 text r) e a
-
--- a stop in a text that stands in the middle of a longer one
-pub writes_within : {T U V : Type 0} (s0 s1 s2 : SinkState) (whole x y z : List ℕ) (t : T) (stop : WriteStop)
-    → whole ≡ (x ++ y) ++ z → Writes {T = T} s0 s1 x (Ok t) → Writes {T = U} s1 s2 y (Err stop)
-    → Writes {T = V} s0 s2 whole (Err stop)
-writes_within {T} {U} {V} s0 s1 s2 whole x y z t stop e a b =
-    subst (λ (text : List ℕ). Writes {T = V} s0 s2 text (Err stop)) (sym e)
-    (writes_front {T = U} {U = V} s0 s2 (x ++ y) z stop (writes_then {T = T} {U = U} s0 s1 s2 x y t (Err stop) a b))

@@ -3,8 +3,7 @@ use Rattle.palm_cert.specs.Certificate.{step_line}
 use Rattle.palm_cert.specs.Needs.{removals_at}
 use Rattle.palm_cert.proofs.cited.Logged.{numbered_user, some_removal, step_read, user_at_place, user_numbered, variable_at}
 use Rattle.palm_cert.proofs.cited.Stepped.{step_within, text_one_at}
-use Rattle.palm_model.specs.Log.{Removal}
-use Rattle.palm_lang.proofs.cited.Writes.{writes_text}
+use Rattle.palm_lang.proofs.cited.Wrote.{wrote_text}
 use Rattle.palm_cert.proofs.certificate.write_step.Goals as goal
 
 pub number_of-by-requires : goal.number_of-by-requires
@@ -34,7 +33,7 @@ returns g c =
     let log = c.args.log.now.log in
     let steps = removals_at log c.args.steps.now in
     let r = some_removal log c.args.place (step_within log c.args.steps.now c.requires.steps c.args.place c.requires.step) in
-    writes_text _ _ _ _ _
+    wrote_text
     (step_read book steps log c.args.place r.0 c.pair_at.result c.by_at.result c.number_of-by.result c.deref.result.now r.1 c.pair_at.ensures c.by_at.ensures c.number_of-by.ensures (c.deref.ensures.value ∙ c.in_ok-collect_numbers.ensures)
     ∙ text_one_at (step_line book steps) log c.args.place r.0 r.1)
     c.write_removal.ensures

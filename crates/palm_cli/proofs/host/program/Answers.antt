@@ -1,6 +1,7 @@
 use Rattle.std.proofs.Common.{ℕ, List, map, string_bytes, vec_len, ap, subst, sym, ◌∙◌}
 use Rattle.palm_session.specs.Objects.{numbered}
-use Rattle.palm_cli.specs.Commands.{Runs, streams}
+use Rattle.palm_pump.specs.Streams.{streams}
+use Rattle.palm_cli.specs.Commands.{Runs}
 use Rattle.palm_cli.specs.Words.{IsGen}
 use Rattle.palm_cli.proofs.Hosting.{leads_stock}
 use Rattle.palm_cli.proofs.TopLemmas.{wants_gen, wants_judge, wants_run, wants_usage}

@@ -1,9 +1,9 @@
-use Rattle.palm_explain.specs.Graph.{graph_of}
-use Rattle.palm_explain.specs.Needed.{IsWalked}
+use Rattle.palm_explain.specs.Entries.{pairs_with}
+use Rattle.palm_explain.specs.Needed.{AreNotedSpans, IsWalked}
 use Rattle.palm_explain.proofs.needing.add_needed.Given as goal
 
-abbrev pub invariant-loop-place : goal.invariant-loop-place
-invariant-loop-place l = IsWalked (graph_of l.nodes) l.log l.fn.var l.values l.noted l.end l.visited.items
+abbrev pub invariant-loop-number : goal.invariant-loop-number
+invariant-loop-number l = IsWalked l.log l.rows (pairs_with l.fn.var l.values) l.noted l.end l.visited.items × AreNotedSpans l.rows l.known.items l.end l.noted
 
-abbrev pub decreases-loop-place : goal.decreases-loop-place
-decreases-loop-place l = l.end
+abbrev pub decreases-loop-number : goal.decreases-loop-number
+decreases-loop-number l = l.end

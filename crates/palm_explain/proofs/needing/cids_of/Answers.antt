@@ -1,37 +1,82 @@
-use Rattle.std.proofs.Common.{◌<◌, ℕ, slice_index_or, Contains, take_all, sym, subst, ap, ◌↔◌}
-use Rattle.std.proofs.lemmas.List.{get_or_default, length-map}
+use Rattle.std.proofs.Common.{◌≡◌, ◌∙◌, arith, [], ◌∷◌, ◌++◌, sym, ap, subst}
 use Rattle.std.proofs.lemmas.Option.{slice_get_within}
-use Rattle.palm_model.specs.Log.{Removal}
-use Rattle.palm_explain.specs.Graph.{graph_of, link_of, log_of, removal_at, said}
-use Rattle.palm_explain.specs.Needed.{AreMakers, IsNeededAt, pairs_with}
-use Rattle.palm_explain.proofs.Graphs.{map_place, removal_is}
-use Rattle.palm_explain.proofs.NeededPlaces.{makers_explain, makers_more}
+use Rattle.palm_explain.specs.declared.entry.Entry.{Entry}
+use Rattle.palm_explain.specs.declared.rows.TheConstants.{NO_NUMBER}
+use Rattle.palm_explain.specs.Entries.{log_of, pairs_with, removal_of}
+use Rattle.palm_explain.specs.Needed.{AreNotedSpans, HasNoted}
+use Rattle.palm_explain.proofs.NeededPlaces.{IsWalkedBy, makers_explain, makers_more, makers_none, walk_begun, walk_ended, walk_here, walk_next}
+use Rattle.palm_explain.proofs.NotedSpans.{spans_empty, spans_lower}
+use Rattle.palm_explain.proofs.Reasons.{map_place, some_same}
 use Rattle.palm_explain.proofs.needing.cids_of.Goals as goal
 
-pub key_of_place-key-requires : goal.key_of_place-key-requires
-key_of_place-key-requires c =
-    let places = c.deref-place-items.result.now in
-    let i = c.loop-place.place-index in
-    let place = slice_index_or places i 0 in
-    let m : Contains places place = (i, c.loop-place-test.true, get_or_default places i place 0 c.loop-place-test.true) in
-    let r = (c.in_ok-add_needed.ensures.each place).0 (subst (λ ps. Contains ps place) c.deref-place-items.ensures.value m) in
-    subst (λ n. place < n) (length-map c.args.log.now (removal_at (graph_of c.args.nodes.now))) (slice_get_within (log_of (graph_of c.args.nodes.now) c.args.log.now) place r.0 r.1)
+pub loop-number-init : goal.loop-number-init
+loop-number-init c =
+    let log = c.args.log.now in
+    let rows = c.args.rows.now in
+    let pairs = pairs_with c.args.var c.args.values.now in
+    let noted = c.note_values.new.noted in
+    let entered = c.requires.entered in (
+      subst (IsWalkedBy log rows pairs noted NO_NUMBER) (sym c.new-cids.ensures.items)
+          (record {
+            visited = [];
+            walked = walk_begun log rows entered.0 entered.1 pairs noted (subst (λ ws. HasNoted rows ws noted pairs) c.new-noted.ensures c.in_ok-note_values.ensures);
+            made = makers_none (log_of rows log);
+          }),
+      spans_empty rows c.in_ok-known.known.items NO_NUMBER noted c.in_ok-known.ensures,
+    )
 
-pub loop-place-preserved : goal.loop-place-preserved
-loop-place-preserved c =
-    let g = graph_of c.args.nodes.now in
-    let places = c.deref-place-items.result.now in
-    let i = c.loop-place.place-index in
-    let place = slice_index_or places i 0 in
-    let k = c.key_of_place-key.result in
-    makers_more (log_of g c.args.log.now) places i place (removal_at g k) c.index.result.now.by c.loop-place.cids.items c.add_cid.new.cids.items c.loop-place-test.true
-    (sym (get_or_default places i place 0 c.loop-place-test.true)) (map_place (removal_at g) c.args.log.now place k c.key_of_place-key.ensures)
-    (ap (λ (r : Removal). r.by) (removal_is g k (said c.index.result.now) (ap link_of c.index.ensures))) c.loop-place.invariant c.in_ok-add_cid.ensures
+pub entry_at-entry-requires : goal.entry_at-entry-requires
+entry_at-entry-requires c =
+    let log = c.args.log.now in
+    let place = c.place_of.result in
+    let entered = c.requires.entered in
+    let i = c.loop-number.invariant.0 in
+    let e = walk_here log c.args.rows.now entered.0 entered.1 (pairs_with c.args.var c.args.values.now) c.loop-number.noted c.loop-number.end c.in-Some.number place i.visited
+    i.walked c.in-Some.ensures.some.has c.place_of.ensures in
+    slice_get_within log place e.0 e.1
+
+pub loop-number-preserved : goal.loop-number-preserved
+loop-number-preserved c =
+    let log = c.args.log.now in
+    let rows = c.args.rows.now in
+    let pairs = pairs_with c.args.var c.args.values.now in
+    let l = c.loop-number in
+    let i = l.invariant.0 in
+    let number = c.in-Some.number in
+    let place = c.place_of.result in
+    let entered = c.requires.entered in
+    let f = walk_here log rows entered.0 entered.1 pairs l.noted l.end number place i.visited i.walked c.in-Some.ensures.some.has c.place_of.ensures in
+    let e = c.entry_at-entry.result.now in
+    let at = c.entry_at-entry.ensures in
+    let is = ap (λ (g : Entry). g.number) (some_same e f.0 (sym at ∙ f.1)) ∙ f.2 in (
+      record {
+        visited = i.visited ++ place ∷ [];
+        walked = walk_next log rows entered.0 entered.1 pairs l.noted c.note_reasons.new.noted l.end number place e i.visited i.walked c.in-Some.ensures.some at is c.in_ok-note_reasons.ensures.noted;
+        made = makers_more (log_of rows log) i.visited place (removal_of rows e) l.cids.items c.add_cid.new.cids.items (map_place (removal_of rows) log place e at) i.made c.in_ok-add_cid.ensures;
+      },
+      subst (λ n. AreNotedSpans rows c.note_reasons.new.known.items n c.note_reasons.new.noted) is c.in_ok-note_reasons.ensures.known,
+    )
+
+pub note_reasons-requires-clause-known : goal.note_reasons-requires-clause-known
+note_reasons-requires-clause-known c =
+    let log = c.args.log.now in
+    let rows = c.args.rows.now in
+    let l = c.loop-number in
+    let i = l.invariant.0 in
+    let number = c.in-Some.number in
+    let entered = c.requires.entered in
+    let f = walk_here log rows entered.0 entered.1 (pairs_with c.args.var c.args.values.now) l.noted l.end number c.place_of.result i.visited i.walked c.in-Some.ensures.some.has c.place_of.ensures in
+    let e = c.entry_at-entry.result.now in
+    let is : e.number ≡ number = ap (λ (g : Entry). g.number) (some_same e f.0 (sym c.entry_at-entry.ensures ∙ f.1)) ∙ f.2 in
+    let below = c.in-Some.ensures.some.below in
+    spans_lower rows l.known.items e.number l.end l.noted (omega (arith, is, below)) l.invariant.1
 
 pub returns : goal.returns
 returns c =
-    let log = log_of (graph_of c.args.nodes.now) c.args.log.now in
-    let places = c.deref-place-items.result.now in
-    makers_explain log c.args.var c.args.values.now places c.loop-place.cids.items
-    (subst (λ ps. (place : ℕ) → Contains ps place ↔ IsNeededAt log (pairs_with c.args.var c.args.values.now) place) (sym c.deref-place-items.ensures.value) c.in_ok-add_needed.ensures.each)
-    (subst (λ ps. AreMakers log ps c.loop-place.cids.items) (take_all c.loop-place.place-index places c.loop-place-test.false) c.loop-place.invariant)
+    let log = c.args.log.now in
+    let rows = c.args.rows.now in
+    let entered = c.requires.entered in
+    let l = c.loop-number in
+    let i = l.invariant.0 in
+    makers_explain (log_of rows log) c.args.var c.args.values.now i.visited l.cids.items
+    (walk_ended log rows entered.0 entered.1 (pairs_with c.args.var c.args.values.now) l.noted l.end i.visited i.walked c.in_default.ensures.none) i.made

@@ -1,7 +1,10 @@
-use Rattle.std.proofs.Common.{take}
-use Rattle.palm_explain.specs.Graph.{graph_of, log_of}
-use Rattle.palm_explain.specs.Needed.{AreMakers}
+use Rattle.palm_explain.specs.Entries.{pairs_with}
+use Rattle.palm_explain.specs.Needed.{AreNotedSpans}
+use Rattle.palm_explain.proofs.NeededPlaces.{IsWalkedBy}
 use Rattle.palm_explain.proofs.needing.cids_of.Given as goal
 
-abbrev pub invariant-loop-place : goal.invariant-loop-place
-invariant-loop-place l = AreMakers (log_of (graph_of l.nodes) l.log) (take l.place-index l.place-items) l.cids.items
+abbrev pub invariant-loop-number : goal.invariant-loop-number
+invariant-loop-number l = IsWalkedBy l.log l.rows (pairs_with l.fn.var l.values) l.noted l.end l.cids.items × AreNotedSpans l.rows l.known.items l.end l.noted
+
+abbrev pub decreases-loop-number : goal.decreases-loop-number
+decreases-loop-number l = l.end

@@ -1,14 +1,8 @@
-use Rattle.std.proofs.Common.{◌≡◌, ℕ, List}
-use Rattle.palm_explain.specs.Chain.{nexts_of}
-use Rattle.palm_explain.specs.Graph.{graph_of, marks_of}
-use Rattle.palm_explain.proofs.Closing.{IsClosing}
-use Rattle.palm_explain.proofs.Falling.{IsFalling}
+use Rattle.std.proofs.Common.{not}
+use Rattle.std.proofs.lemmas.List.Filters.{FiltersInPlace}
+use Rattle.palm_explain.specs.declared.entry.Entry.{Entry}
 use Rattle.palm_explain.proofs.withdrawing.close_up.Given as goal
 
--- the log is closed up below the place, and the marked ones below it stand in a chain
+-- the log is closed up below the place
 abbrev pub invariant-loop-place : goal.invariant-loop-place
-invariant-loop-place l = record {
-  closing : IsClosing (graph_of l.fn.nodes) (marks_of l.fn.nodes) l.fn.log.items (graph_of l.nodes) l.log.items l.place l.end;
-  marks : marks_of l.nodes ≡ marks_of l.fn.nodes;
-  chained : (falling : List ℕ) × IsFalling (marks_of l.nodes) (nexts_of l.nodes) l.fn.log.items l.first l.place falling;
-}
+invariant-loop-place l = FiltersInPlace (λ (e : Entry). not e.mark) l.fn.log.items l.log.items l.kept l.place

@@ -2,8 +2,8 @@ use Rattle.palm_prefer.specs.declared.answer.Preferred.TheVariants.{Hard, Kept}
 use Rattle.palm_session.specs.ReplyText.{NamesUsers}
 use Rattle.palm_session.proofs.deliver.write_preferred.Goals as goal
 
-pub write_users-requires : goal.write_users-requires
-write_users-requires g c =
+pub names-requires : goal.names-requires
+names-requires g c =
     let named : NamesUsers c.args.book.now (Hard c.in-Hard.conflict) = rw c.in-Hard.is at c.requires in named
 
 pub write_kept-requires-clause-users : goal.write_kept-requires-clause-users
@@ -15,7 +15,7 @@ write_kept-requires-clause-left g c =
     let named : NamesUsers c.args.book.now (Kept c.in-Kept.keep c.in-Kept.left) = rw c.in-Kept.is at c.requires in named.1
 
 pub returns-in-Hard : goal.returns-in-Hard
-returns-in-Hard g c = rw c.in-Hard.is c.write_users.ensures
+returns-in-Hard g c = rw c.in-Hard.is c.names.ensures
 
 pub returns-in-Kept : goal.returns-in-Kept
 returns-in-Kept g c = rw c.in-Kept.is c.write_kept.ensures

@@ -2,7 +2,7 @@ use Rattle.std.proofs.Common.{◌∙◌, ap, map, Some}
 use Rattle.palm_book.specs.declared.book.BookCon.{BookCon}
 use Rattle.palm_cert.specs.Certificate.{added_line}
 use Rattle.palm_cert.proofs.cited.Marked.{text_gone, text_one}
-use Rattle.palm_lang.proofs.cited.Writes.{writes_none, writes_text}
+use Rattle.palm_lang.proofs.cited.Wrote.{wrote_none, wrote_text}
 use Rattle.proof_write.proofs.Listing.{marked_by}
 use Rattle.proof_write.proofs.declarations.write_constraint.Goals as goal
 
@@ -11,16 +11,16 @@ returns-then-not-entry g c =
     let book = c.args.book.now in
     let entry = c.constraint-entry.result.now in
     let active = λ (e : BookCon). e.active in
-    writes_text _ _ _ _ _
+    wrote_text
     (text_gone (added_line book.variables) (map active book.constraints) book.constraints c.args.place (marked_by active book.constraints c.args.place entry c.constraint-entry.ensures.at ∙ ap Some c.if-not-entry.true))
-    (writes_none _ tt)
+    (wrote_none _ tt)
 
 pub returns : goal.returns
 returns g c =
     let book = c.args.book.now in
     let entry = c.constraint-entry.result.now in
     let active = λ (e : BookCon). e.active in
-    writes_text _ _ _ _ _
+    wrote_text
     (text_one (added_line book.variables) (map active book.constraints) book.constraints c.args.place entry
     (marked_by active book.constraints c.args.place entry c.constraint-entry.ensures.at ∙ ap Some c.if-not-entry.false) c.constraint-entry.ensures.at)
     c.write_added.ensures

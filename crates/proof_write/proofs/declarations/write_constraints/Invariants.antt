@@ -1,10 +1,10 @@
 use Rattle.std.proofs.Common.{take, map, flat_map, Ok}
 use Rattle.palm_cert.specs.Certificate.{added_line}
 use Rattle.palm_cert.specs.Needs.{marked}
-use Rattle.palm_lang.specs.Writing.{Writes}
+use Rattle.palm_lang.specs.Writer.{Wrote}
 use Rattle.proof_write.proofs.declarations.write_constraints.Given as goal
 
 abbrev pub invariant-loop-place : goal.invariant-loop-place
 invariant-loop-place g l =
-    Writes {T = Unit {0}} (g.K.Sink.state l.initial.out) (g.K.Sink.state l.out)
+    Wrote {T = Unit {0}} g.K.Sink.state l.initial.writer l.writer
     (flat_map (added_line l.book.variables) (marked (take l.place (map (λ e. e.active) l.book.constraints)) l.book.constraints)) (Ok tt)

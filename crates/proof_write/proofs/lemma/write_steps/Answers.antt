@@ -1,54 +1,36 @@
-use Rattle.std.proofs.Common.{◌≡◌, ◌∙◌, ◌<◌, [], ◌∷◌, length, flat_map, get_or, sym, subst, ap, arith}
-use Rattle.std.proofs.lemmas.Result.{err_from_is_err_and}
-use Rattle.palm_cert.specs.Needs.{AreSteps, removals_at}
+use Rattle.std.proofs.Common.{get_or, sym}
+use Rattle.std.proofs.lemmas.List.{get_or_default}
+use Rattle.palm_cert.specs.Needs.{removals_at}
 use Rattle.palm_cert.proofs.cited.Stepped.{text_more, text_parts, text_whole}
-use Rattle.palm_lang.proofs.cited.Writes.{writes_text, writes_then, writes_within}
+use Rattle.palm_lang.proofs.cited.Wrote.{wrote_text, wrote_then, wrote_within}
 use Rattle.proof_run.specs.Lemma.{step_line}
-use Rattle.proof_write.specs.Numbers.{AreNumbers}
 use Rattle.proof_write.proofs.lemma.write_steps.Goals as goal
 
-pub write_removal-requires-clause-steps : goal.write_removal-requires-clause-steps
-write_removal-requires-clause-steps g c = subst (λ v. AreSteps c.args.log.now.log v.items) (sym c.loop-index.invariant.steps) c.requires.steps
+pub write_step-requires-clause-step : goal.write_step-requires-clause-step
+write_step-requires-clause-step g c =
+    let steps = c.args.steps.now in
+    (c.loop-place.place-index, c.loop-place-test.true, get_or_default steps c.loop-place.place-index (get_or steps c.loop-place.place-index 0) 0 c.loop-place-test.true)
 
-pub returns-clause-text : goal.returns-clause-text
-returns-clause-text g c undone are =
-    let book = c.args.book.now in
+pub returns-in_err-write_step : goal.returns-in_err-write_step
+returns-in_err-write_step g c undone are =
     let log = c.args.log.now.log in
-    let steps = c.args.notes.now.steps.items in
-    writes_text _ _ _ _ _ (text_whole (step_line book undone (removals_at log steps)) log steps c.loop-index.index (omega (arith, c.loop-index-test.false))) (c.loop-index.invariant.text undone are)
+    let steps = c.args.steps.now in
+    let i = c.loop-place.place-index in
+    let here = get_or_default steps i 0 (get_or steps i 0) c.loop-place-test.true in
+    wrote_text (sym (text_parts (step_line c.args.book.now undone (removals_at log steps)) log steps i (get_or steps i 0) c.loop-place-test.true here))
+    (wrote_within _ c.from_residual.ensures.1 (c.loop-place.invariant undone are) (c.in_err-write_step.ensures undone are))
 
-pub returns-in_err-write_removal-clause-text : goal.returns-in_err-write_removal-clause-text
-returns-in_err-write_removal-clause-text g c undone are =
-    let e = err_from_is_err_and c.from_residual.result c.from_residual.ensures.1 in
-    let book = c.args.book.now in
+pub loop-place-preserved : goal.loop-place-preserved
+loop-place-preserved g c undone are =
     let log = c.args.log.now.log in
-    let steps = c.args.notes.now.steps.items in
-    let i = c.loop-index.index in
-    let p = c.index.result.now in
-    let so_far = c.loop-index.invariant in
-    let lt : i < length steps = omega (arith, c.loop-index-test.true, c.len-index-end.ensures, c.args.notes.now.steps.ok.0) in
-    let at : p ≡ get_or steps i p = c.index.ensures ∙ ap (λ v. get_or v.items i p) so_far.steps in
-    let text = ap (λ v. flat_map (step_line book undone (removals_at log v.items)) (removals_at log (p ∷ []))) so_far.steps in
-    rw (e.1, e.2)
-    (writes_within _ _ _ _ _ _ _ tt c.in_err-write_removal.field-0.0 (text_parts (step_line book undone (removals_at log steps)) log steps i p lt at)
-    (so_far.text undone are) (writes_text _ _ _ _ _ text (c.in_err-write_removal.ensures.text undone (subst (AreNumbers undone) (sym so_far.numbers) are))))
+    let steps = c.args.steps.now in
+    let i = c.loop-place.place-index in
+    let here = get_or_default steps i 0 (get_or steps i 0) c.loop-place-test.true in
+    wrote_text (text_more (step_line c.args.book.now undone (removals_at log steps)) log steps i (get_or steps i 0) c.loop-place-test.true here)
+    (wrote_then (c.loop-place.invariant undone are) (c.in_ok-write_step.ensures undone are))
 
-pub loop-index-preserved : goal.loop-index-preserved
-loop-index-preserved g c =
-    let book = c.args.book.now in
+pub returns : goal.returns
+returns g c undone are =
     let log = c.args.log.now.log in
-    let steps = c.args.notes.now.steps.items in
-    let i = c.loop-index.index in
-    let p = c.index.result.now in
-    let so_far = c.loop-index.invariant in
-    let step = c.in_ok-write_removal.ensures in
-    let lt : i < length steps = omega (arith, c.loop-index-test.true, c.len-index-end.ensures, c.args.notes.now.steps.ok.0) in
-    let at : p ≡ get_or steps i p = c.index.ensures ∙ ap (λ v. get_or v.items i p) so_far.steps in
-    record {
-      steps = step.steps ∙ so_far.steps;
-      numbers = step.numbers ∙ so_far.numbers;
-      text = λ undone are.
-          let text = ap (λ v. flat_map (step_line book undone (removals_at log v.items)) (removals_at log (p ∷ []))) so_far.steps in
-          writes_text _ _ _ _ _ (text_more (step_line book undone (removals_at log steps)) log steps i p lt at)
-          (writes_then _ _ _ _ _ tt _ (so_far.text undone are) (writes_text _ _ _ _ _ text (step.text undone (subst (AreNumbers undone) (sym so_far.numbers) are))));
-    }
+    let steps = c.args.steps.now in
+    wrote_text (text_whole (step_line c.args.book.now undone (removals_at log steps)) log steps c.loop-place.place-index c.loop-place-test.false) (c.loop-place.invariant undone are)

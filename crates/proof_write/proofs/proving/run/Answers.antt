@@ -1,15 +1,16 @@
 use Rattle.std.proofs.Common.{None, Option, [], is_some, refl, rules, sym, ap, ◌∙◌, subst, append-nil, arith, Err, Ok}
-use Rattle.palm_engine.specs.Engine.{IsInterrupted}
 use Rattle.palm_engine.specs.Following.{Hearing, OrderFollows}
 use Rattle.palm_lang.specs.declared.stop.WriteStop.TheVariants.{NoMemory}
-use Rattle.palm_search.specs.Calls.{TakesTurn, search_state}
+use Rattle.palm_search.specs.Calls.{SearchView, TakesTurn, search_state}
 use Rattle.palm_search.specs.Following.{GuideFollows, Moment}
+use Rattle.palm_search.specs.Machine.{KeepsOrder}
 use Rattle.palm_search.specs.Stopping.GuideStops.{stops_silent}
+use Rattle.palm_search.specs.Stopping.IsCutOffBy.{by_first_settling}
 use Rattle.palm_search.specs.Turning.{IsNext}
 use Rattle.palm_search.specs.declared.turn.Turn.TheVariants.{Undo as TurnUndo}
-use Rattle.palm_search.proofs.cited.Following.{settled_alike}
+use Rattle.palm_search.proofs.cited.Lending.{broken_on, has_run_on, interrupted_on, runs_then, settled_on}
 use Rattle.palm_search.proofs.cited.Results.{on_err}
-use Rattle.palm_search.proofs.cited.Running.{counts_then, cut_first, cut_here, cut_settling, cut_undoing, fewer_left, fresh_has, interrupted_has}
+use Rattle.palm_search.proofs.cited.Running.{cut_first, cut_here, cut_settling, cut_undoing, fewer_left, fresh_has, interrupted_has}
 use Rattle.palm_search.proofs.cited.Stopping.{cut_first_by, cut_here_by, cut_settling_by, cut_undoing_by, decision_stops, order_silent, order_stops}
 use Rattle.proof_run.specs.SoFar.Follows.{a_lemma, an_end}
 use Rattle.proof_write.specs.Numbers.{AreNumbers}
@@ -30,222 +31,284 @@ ordering g = OrderFollows g.O.Order.answers g.O.Order.hears g.O.Order.state
 
 -- ---- the declarations, and the first settling
 
-pub returns-in_err-write_declarations-clause-decisions : goal.returns-in_err-write_declarations-clause-decisions
-returns-in_err-write_declarations-clause-decisions g c =
-    fresh_has c.args.engine.now.state c.args.search.now c.store-store.ensures.valid (book_users c.args.book.now c.args.engine.now.state c.requires.active) c.requires.fresh
+pub returns-in_err-write_declarations-clause-ran : goal.returns-in_err-write_declarations-clause-ran
+returns-in_err-write_declarations-clause-ran g c =
+    let a = c.args.machine.now in
+    let fits = c.checks-checks.type_inv in
+    let is = c.checks-checks.ensures in
+    record {
+      before = c.store-store.ensures.valid;
+      on = record {
+        holds = record { engine = refl; search = refl; guide = refl; order = refl; steps = refl };
+        counts = record { later = omega arith; checks = omega (arith, fits, is) };
+        lent = record { guide = refl; order = refl };
+      };
+      decisions = fresh_has a.engine.now.state a.search.now c.store-store.ensures.valid (book_users c.args.book.now a.engine.now.state c.requires.listed.active) c.requires.fresh;
+    }
 
 pub returns-in_err-write_declarations-clause-stopped : goal.returns-in_err-write_declarations-clause-stopped
 returns-in_err-write_declarations-clause-stopped g c =
-    let s = c.args.engine.now.state in
-    on_err _ c.from_residual.result (cut_first_by c.args.guide.now c.args.order.now c.args.order.now c.args.budget s s c.args.search.now c.requires.fresh (order_silent c.args.order.now s))
+    let a = c.args.machine.now in
+    let s = a.engine.now.state in
+    on_err _ c.from_residual.result (cut_first_by a.guide.now a.order.now a.order.now c.args.budget s s a.search.now c.requires.fresh (order_silent a.order.now s))
 
 pub returns-in_err-settle-clause-stopped : goal.returns-in_err-settle-clause-stopped
 returns-in_err-settle-clause-stopped g c =
-    on_err _ c.from_residual-in_err-settle.result (cut_first_by c.args.guide.now c.args.order.now c.settle.new.order c.args.budget c.args.engine.now.state c.settle.new.self.state c.args.search.now c.requires.fresh
-    (order_stops c.args.order.now c.settle.new.order c.args.engine.now c.settle.new.self c.in_err-settle.ensures.err))
+    let a = c.args.machine.now in
+    let n = c.settle.new.self in
+    let settle = c.settle.ensures in
+    on_err _ c.from_residual-in_err-settle.result (by_first_settling (ap (λ (v : SearchView). v.journal) (settle.search ∙ c.requires.fresh)) settle.guide (order_stops a.order.now n.order.now a.engine.now n.engine.now c.in_err-settle.ensures.err))
 
 pub returns-in_err-settle-clause-err : goal.returns-in_err-settle-clause-err
 returns-in_err-settle-clause-err g c =
-    on_err _ c.from_residual-in_err-settle.result (cut_first (is_some c.args.guide.now) (is_some c.args.order.now) c.args.budget c.args.engine.now c.settle.new.self c.args.search.now c.requires.fresh c.in_err-settle.ensures.err.interrupted)
+    let a = c.args.machine.now in
+    let n = c.settle.new.self in
+    on_err _ c.from_residual-in_err-settle.result (cut_first (is_some a.guide.now) (is_some a.order.now) c.args.budget a.engine.now n.engine.now n.search.now (c.settle.ensures.search ∙ c.requires.fresh) c.in_err-settle.ensures.err.interrupted)
 
 pub returns-in_err-settle-clause-front : goal.returns-in_err-settle-clause-front
 returns-in_err-settle-clause-front g c =
-    (declaring_stops c.args.book.now (is_some c.args.guide.now) (is_some c.args.order.now) c.args.budget c.args.engine.now.state c.args.search.now (g.K.Sink.state c.args.out.now) (g.K.Sink.state c.write_declarations.new.out) NoMemory
-    c.from_residual-in_err-settle.result (stopped_with _ _ c.from_residual-in_err-settle.ensures.1) c.requires.fresh (stopped_quietly _ _ _ c.in_ok-write_declarations.ensures)).front
+    let a = c.args.machine.now in
+    let n = c.settle.new.self in
+    (declaring_stops c.args.book.now (is_some a.guide.now) (is_some a.order.now) c.args.budget a.engine.now.state n.search.now (g.K.Sink.state c.args.out.now) (g.K.Sink.state c.write_declarations.new.out) NoMemory
+    c.from_residual-in_err-settle.result (stopped_with _ _ c.from_residual-in_err-settle.ensures.1) (c.settle.ensures.search ∙ c.requires.fresh) (stopped_quietly _ _ _ c.in_ok-write_declarations.ensures)).front
 
-pub returns-in_err-settle-clause-decisions : goal.returns-in_err-settle-clause-decisions
-returns-in_err-settle-clause-decisions g c =
-    interrupted_has (is_some c.args.order.now) c.args.engine.now c.settle.new.self c.args.search.now c.in_err-settle.ensures.err.interrupted
-    (fresh_has c.args.engine.now.state c.args.search.now c.store-store.ensures.valid (book_users c.args.book.now c.args.engine.now.state c.requires.active) c.requires.fresh)
+pub returns-in_err-settle-clause-ran : goal.returns-in_err-settle-clause-ran
+returns-in_err-settle-clause-ran g c =
+    let a = c.args.machine.now in
+    let n = c.settle.new.self in
+    record {
+      before = c.store-store.ensures.valid;
+      on = c.settle.ensures.runs;
+      decisions = interrupted_has (is_some a.order.now) a.engine.now n.engine.now n.search.now c.in_err-settle.ensures.err.interrupted
+          (fresh_has a.engine.now.state n.search.now c.store-store.ensures.valid (book_users c.args.book.now a.engine.now.state c.requires.listed.active) (c.settle.ensures.search ∙ c.requires.fresh));
+    }
 
 pub loop-notes-init : goal.loop-notes-init
-loop-notes-init g c = (
-  proving_starts (guiding g) (ordering g) c.args.guide.now c.args.order.now c.settle.new.order c.args.budget c.args.book.now c.in_ok-settle.field-0 c.args.engine.now c.settle.new.self c.args.search.now c.new-notes.result.numbers
-      (g.K.Sink.state c.args.out.now) (g.K.Sink.state c.write_declarations.new.out) c.store-store.ensures.valid c.requires.active c.requires.fresh c.new-notes.ensures c.in_ok-write_declarations.ensures c.in_ok-settle.ensures.ok,
-  record { later = c.settle.ensures.asked.later; checks = c.settle.ensures.checks },
-  record { guide = refl; order = c.settle.ensures.stays },
-)
+loop-notes-init g c =
+    let a = c.args.machine.now in
+    let n = c.settle.new.self in
+    record {
+      proving = rw c.settle.ensures.guide (proving_starts (guiding g) (ordering g) a.guide.now a.order.now n.order.now c.args.budget c.args.book.now c.in_ok-settle.field-0 a.engine.now n.engine.now n.search.now c.new-notes.result.numbers
+          (g.K.Sink.state c.args.out.now) (g.K.Sink.state c.write_declarations.new.out) c.store-store.ensures.valid c.requires.listed.active (c.settle.ensures.search ∙ c.requires.fresh) c.new-notes.ensures c.in_ok-write_declarations.ensures c.in_ok-settle.ensures.ok);
+      runs = c.settle.ensures.runs;
+    }
 
 -- ---- memory ran out before a turn
 
 pub returns-in_err-end-clause-err : goal.returns-in_err-end-clause-err
 returns-in_err-end-clause-err g c =
-    let m = c.loop-notes.engine.state in
+    let a = c.args.machine.now in
+    let m = c.loop-notes.machine in
     on_err _ c.from_residual-in_err-end.result
-    (cut_here (is_some c.args.guide.now) (is_some c.args.order.now) c.args.budget c.args.engine.now.state m m c.loop-notes.search c.loop-notes.search c.loop-notes.invariant.0.by.running refl refl)
+    (cut_here (is_some a.guide.now) (is_some a.order.now) c.args.budget a.engine.now.state m.engine.now.state m.engine.now.state m.search.now m.search.now c.loop-notes.invariant.proving.by.running refl refl)
 
 pub returns-in_err-end-clause-stopped : goal.returns-in_err-end-clause-stopped
 returns-in_err-end-clause-stopped g c =
-    let m = c.loop-notes in
+    let a = c.args.machine.now in
+    let m = c.loop-notes.machine in
     on_err _ c.from_residual-in_err-end.result
-    (cut_here_by c.args.guide.now m.guide m.guide c.args.order.now m.order c.args.budget c.args.engine.now.state m.engine.state m.engine.state m.search m.search (left_by m.invariant.0) refl refl (stops_silent refl))
+    (cut_here_by a.guide.now m.guide.now m.guide.now a.order.now m.order.now c.args.budget a.engine.now.state m.engine.now.state m.engine.now.state m.search.now m.search.now (left_by c.loop-notes.invariant.proving) refl refl (stops_silent refl))
 
 pub returns-in_err-end-clause-front : goal.returns-in_err-end-clause-front
 returns-in_err-end-clause-front g c =
-    (stops_here c.loop-notes.invariant.0 c.loop-notes.search c.from_residual-in_err-end.result (stopped_with _ _ c.from_residual-in_err-end.ensures.1) refl).front
+    let m = c.loop-notes.machine in
+    (stops_here c.loop-notes.invariant.proving m.search.now c.from_residual-in_err-end.result (stopped_with _ _ c.from_residual-in_err-end.ensures.1) refl).front
 
 pub returns-in_err-decide-in-Decide-clause-err : goal.returns-in_err-decide-in-Decide-clause-err
 returns-in_err-decide-in-Decide-clause-err g c =
+    let a = c.args.machine.now in
+    let m = c.loop-notes.machine in
     let cut = c.in_err-decide-in-Decide.ensures.err in
     on_err _ c.from_residual-in_err-decide-in-Decide.result
-    (cut_here (is_some c.args.guide.now) (is_some c.args.order.now) c.args.budget c.args.engine.now.state c.loop-notes.engine.state c.decide.new.engine.state c.loop-notes.search c.decide.new.self c.loop-notes.invariant.0.by.running (λ i. (cut.0 i).state) cut.1)
+    (cut_here (is_some a.guide.now) (is_some a.order.now) c.args.budget a.engine.now.state m.engine.now.state c.decide.new.self.engine.now.state m.search.now c.decide.new.self.search.now c.loop-notes.invariant.proving.by.running (λ i. (cut.0 i).state) cut.1)
 
 pub returns-in_err-decide-in-Decide-clause-stopped : goal.returns-in_err-decide-in-Decide-clause-stopped
 returns-in_err-decide-in-Decide-clause-stopped g c =
-    let m = c.loop-notes in
+    let a = c.args.machine.now in
+    let m = c.loop-notes.machine in
     let cut = c.in_err-decide-in-Decide.ensures in
     on_err _ c.from_residual-in_err-decide-in-Decide.result
-    (cut_here_by c.args.guide.now m.guide c.decide.new.guide c.args.order.now m.order c.args.budget c.args.engine.now.state m.engine.state c.decide.new.engine.state m.search c.decide.new.self (left_by m.invariant.0)
-    (λ i. (cut.err.0 i).state) cut.err.1 (decision_stops (search_state m.engine.state m.search) m.guide c.decide.new.guide cut.asked))
+    (rw cut.keeps.quiet.order (cut_here_by a.guide.now m.guide.now c.decide.new.self.guide.now a.order.now m.order.now c.args.budget a.engine.now.state m.engine.now.state c.decide.new.self.engine.now.state m.search.now c.decide.new.self.search.now (left_by c.loop-notes.invariant.proving)
+    (λ i. (cut.err.0 i).state) cut.err.1 (decision_stops (search_state m.engine.now.state m.search.now) m.guide.now c.decide.new.self.guide.now cut.asked)))
+
+pub returns-in_err-decide-in-Decide-clause-ran : goal.returns-in_err-decide-in-Decide-clause-ran
+returns-in_err-decide-in-Decide-clause-ran g c = has_run_on c.store-store.ensures.valid c.loop-notes.invariant.runs c.decide.ensures.keeps
 
 pub returns-in_err-decide-in-Decide-clause-front : goal.returns-in_err-decide-in-Decide-clause-front
 returns-in_err-decide-in-Decide-clause-front g c =
-    (stops_here c.loop-notes.invariant.0 c.decide.new.self c.from_residual-in_err-decide-in-Decide.result (stopped_with _ _ c.from_residual-in_err-decide-in-Decide.ensures.1) c.in_err-decide-in-Decide.ensures.err.1).front
+    (stops_here c.loop-notes.invariant.proving c.decide.new.self.search.now c.from_residual-in_err-decide-in-Decide.result (stopped_with _ _ c.from_residual-in_err-decide-in-Decide.ensures.1) c.in_err-decide-in-Decide.ensures.err.1).front
 
 -- ---- the end
 
 pub write_end-requires-clause-fits : goal.write_end-requires-clause-fits
-write_end-requires-clause-fits g c = proving_fits c.loop-notes.invariant.0 c.store-store.ensures.valid c.requires.initial c.requires.active
+write_end-requires-clause-fits g c =
+    proving_fits c.loop-notes.invariant.proving c.store-store.ensures.valid c.requires.listed.initial c.requires.listed.active
 
 pub write_end-requires-clause-ends : goal.write_end-requires-clause-ends
-write_end-requires-clause-ends g c = (c.args.budget, subst (IsNext c.args.budget c.loop-notes.engine.state c.loop-notes.search) c.in-Ended.is c.in_ok-end.ensures)
+write_end-requires-clause-ends g c =
+    let m = c.loop-notes.machine in
+    (c.args.budget, subst (IsNext c.args.budget m.engine.now.state m.search.now) c.in-Ended.is c.in_ok-end.ensures)
 
 pub returns-in_err-write_end-in-Ended-clause-err : goal.returns-in_err-write_end-in-Ended-clause-err
 returns-in_err-write_end-in-Ended-clause-err g c =
-    let m = c.loop-notes.engine.state in
+    let a = c.args.machine.now in
+    let m = c.loop-notes.machine in
     on_err _ c.from_residual-in_err-write_end-in-Ended.result
-    (cut_here (is_some c.args.guide.now) (is_some c.args.order.now) c.args.budget c.args.engine.now.state m m c.loop-notes.search c.loop-notes.search c.loop-notes.invariant.0.by.running refl refl)
+    (cut_here (is_some a.guide.now) (is_some a.order.now) c.args.budget a.engine.now.state m.engine.now.state m.engine.now.state m.search.now m.search.now c.loop-notes.invariant.proving.by.running refl refl)
 
 pub returns-in_err-write_end-in-Ended-clause-stopped : goal.returns-in_err-write_end-in-Ended-clause-stopped
 returns-in_err-write_end-in-Ended-clause-stopped g c =
-    let m = c.loop-notes in
+    let a = c.args.machine.now in
+    let m = c.loop-notes.machine in
     on_err _ c.from_residual-in_err-write_end-in-Ended.result
-    (cut_here_by c.args.guide.now m.guide m.guide c.args.order.now m.order c.args.budget c.args.engine.now.state m.engine.state m.engine.state m.search m.search (left_by m.invariant.0) refl refl (stops_silent refl))
+    (cut_here_by a.guide.now m.guide.now m.guide.now a.order.now m.order.now c.args.budget a.engine.now.state m.engine.now.state m.engine.now.state m.search.now m.search.now (left_by c.loop-notes.invariant.proving) refl refl (stops_silent refl))
 
 pub returns-in_err-write_end-in-Ended-clause-front : goal.returns-in_err-write_end-in-Ended-clause-front
 returns-in_err-write_end-in-Ended-clause-front g c =
-    let proving = c.loop-notes.invariant.0 in
-    let ends = subst (IsNext c.args.budget c.loop-notes.engine.state c.loop-notes.search) c.in-Ended.is c.in_ok-end.ensures in
+    let m = c.loop-notes.machine in
+    let proving = c.loop-notes.invariant.proving in
+    let ends = subst (IsNext c.args.budget m.engine.now.state m.search.now) c.in-Ended.is c.in_ok-end.ensures in
     let w = c.in_err-write_end-in-Ended.ensures proving.argued.undone proving.numbered in
-    (proving_stops proving c.loop-notes.search.journal [] w.0 (g.K.Sink.state c.write_end.new.out) c.in_err-write_end-in-Ended.field-0.0 c.from_residual-in_err-write_end-in-Ended.result
-    (stopped_with _ _ c.from_residual-in_err-write_end-in-Ended.ensures.1) (sym (append-nil c.loop-notes.search.journal)) (omega arith) (an_end c.in-Ended.end ends w.1) w.2).front
+    (proving_stops proving m.search.now.journal [] w.0 (g.K.Sink.state c.write_end.new.out) c.in_err-write_end-in-Ended.field-0.0 c.from_residual-in_err-write_end-in-Ended.result
+    (stopped_with _ _ c.from_residual-in_err-write_end-in-Ended.ensures.1) (sym (append-nil m.search.now.journal)) (omega arith) (an_end c.in-Ended.end ends w.1) w.2).front
 
 pub returns-in-Ended-clause-ok : goal.returns-in-Ended-clause-ok
 returns-in-Ended-clause-ok g c =
-    let proving = c.loop-notes.invariant.0 in
-    let ends = subst (IsNext c.args.budget c.loop-notes.engine.state c.loop-notes.search) c.in-Ended.is c.in_ok-end.ensures in
+    let m = c.loop-notes.machine in
+    let proving = c.loop-notes.invariant.proving in
+    let ends = subst (IsNext c.args.budget m.engine.now.state m.search.now) c.in-Ended.is c.in_ok-end.ensures in
     let w = c.in_ok-write_end-in-Ended.ensures proving.argued.undone proving.numbered in
     proving_ends proving c.in-Ended.end w.0 (g.K.Sink.state c.write_end.new.out) ends w.1 w.2
 
 -- ---- a lemma
 
 pub write_lemma-requires-clause-fits : goal.write_lemma-requires-clause-fits
-write_lemma-requires-clause-fits g c = proving_fits c.loop-notes.invariant.0 c.store-store.ensures.valid c.requires.initial c.requires.active
+write_lemma-requires-clause-fits g c =
+    proving_fits c.loop-notes.invariant.proving c.store-store.ensures.valid c.requires.listed.initial c.requires.listed.active
 
 pub returns-in_err-write_lemma-in-Undo-clause-err : goal.returns-in_err-write_lemma-in-Undo-clause-err
 returns-in_err-write_lemma-in-Undo-clause-err g c =
-    let m = c.loop-notes.engine.state in
+    let a = c.args.machine.now in
+    let m = c.loop-notes.machine in
     on_err _ c.from_residual-in_err-write_lemma-in-Undo.result
-    (cut_here (is_some c.args.guide.now) (is_some c.args.order.now) c.args.budget c.args.engine.now.state m m c.loop-notes.search c.loop-notes.search c.loop-notes.invariant.0.by.running refl refl)
+    (cut_here (is_some a.guide.now) (is_some a.order.now) c.args.budget a.engine.now.state m.engine.now.state m.engine.now.state m.search.now m.search.now c.loop-notes.invariant.proving.by.running refl refl)
 
 pub returns-in_err-write_lemma-in-Undo-clause-stopped : goal.returns-in_err-write_lemma-in-Undo-clause-stopped
 returns-in_err-write_lemma-in-Undo-clause-stopped g c =
-    let m = c.loop-notes in
+    let a = c.args.machine.now in
+    let m = c.loop-notes.machine in
     on_err _ c.from_residual-in_err-write_lemma-in-Undo.result
-    (cut_here_by c.args.guide.now m.guide m.guide c.args.order.now m.order c.args.budget c.args.engine.now.state m.engine.state m.engine.state m.search m.search (left_by m.invariant.0) refl refl (stops_silent refl))
+    (cut_here_by a.guide.now m.guide.now m.guide.now a.order.now m.order.now c.args.budget a.engine.now.state m.engine.now.state m.engine.now.state m.search.now m.search.now (left_by c.loop-notes.invariant.proving) refl refl (stops_silent refl))
 
 pub returns-in_err-write_lemma-in-Undo-clause-front : goal.returns-in_err-write_lemma-in-Undo-clause-front
 returns-in_err-write_lemma-in-Undo-clause-front g c =
-    let proving = c.loop-notes.invariant.0 in
-    let next = subst (IsNext c.args.budget c.loop-notes.engine.state c.loop-notes.search) c.in-Undo.is c.in_ok-end.ensures in
+    let m = c.loop-notes.machine in
+    let proving = c.loop-notes.invariant.proving in
+    let next = subst (IsNext c.args.budget m.engine.now.state m.search.now) c.in-Undo.is c.in_ok-end.ensures in
     let conflict = c.in-Undo.conflict in
     let now = g.K.Sink.state c.write_lemma.new.out in
     let stop = c.in_err-write_lemma-in-Undo.field-0.0 in
-    (proving_stops proving c.loop-notes.search.journal [] (text_here proving conflict next.1.var) now stop c.from_residual-in_err-write_lemma-in-Undo.result (stopped_with _ _ c.from_residual-in_err-write_lemma-in-Undo.ensures.1)
-    (sym (append-nil c.loop-notes.search.journal)) (omega arith) (a_lemma conflict next.0 next.2 (lemma_here proving conflict next.1))
+    (proving_stops proving m.search.now.journal [] (text_here proving conflict next.1.var) now stop c.from_residual-in_err-write_lemma-in-Undo.result (stopped_with _ _ c.from_residual-in_err-write_lemma-in-Undo.ensures.1)
+    (sym (append-nil m.search.now.journal)) (omega arith) (a_lemma conflict next.0 next.2 (lemma_here proving conflict next.1))
     (lemma_written proving conflict c.as_slice.result.now next.1 now (Err stop) c.as_slice.ensures c.in_err-write_lemma-in-Undo.ensures.lemma)).front
 
 -- ---- memory ran out behind it
 
 pub returns-in_err-undo_latest-in-Undo-clause-err : goal.returns-in_err-undo_latest-in-Undo-clause-err
 returns-in_err-undo_latest-in-Undo-clause-err g c =
-    let next = subst (IsNext c.args.budget c.loop-notes.engine.state c.loop-notes.search) c.in-Undo.is c.in_ok-end.ensures in
+    let a = c.args.machine.now in
+    let m = c.loop-notes.machine in
+    let next = subst (IsNext c.args.budget m.engine.now.state m.search.now) c.in-Undo.is c.in_ok-end.ensures in
     on_err _ c.from_residual-in_err-undo_latest-in-Undo.result
-    (cut_undoing (is_some c.args.guide.now) (is_some c.args.order.now) c.args.budget c.args.engine.now.state c.loop-notes.engine.state c.undo_latest.new.engine.state c.loop-notes.search c.undo_latest.new.search c.in-Undo.conflict
-    c.loop-notes.invariant.0.by.running next.0 c.in_err-undo_latest-in-Undo.ensures.err)
+    (cut_undoing (is_some a.guide.now) (is_some a.order.now) c.args.budget a.engine.now.state m.engine.now.state c.undo_latest.new.self.engine.now.state m.search.now c.undo_latest.new.self.search.now c.in-Undo.conflict
+    c.loop-notes.invariant.proving.by.running next.0 c.in_err-undo_latest-in-Undo.ensures.err)
 
 pub returns-in_err-undo_latest-in-Undo-clause-stopped : goal.returns-in_err-undo_latest-in-Undo-clause-stopped
 returns-in_err-undo_latest-in-Undo-clause-stopped g c =
-    let m = c.loop-notes in
-    let next = subst (IsNext c.args.budget m.engine.state m.search) c.in-Undo.is c.in_ok-end.ensures in
+    let a = c.args.machine.now in
+    let m = c.loop-notes.machine in
+    let next = subst (IsNext c.args.budget m.engine.now.state m.search.now) c.in-Undo.is c.in_ok-end.ensures in
     let cut = c.in_err-undo_latest-in-Undo.ensures in
     on_err _ c.from_residual-in_err-undo_latest-in-Undo.result
-    (cut_undoing_by g.G.Guide.answers g.G.Guide.hears g.G.Guide.state c.args.guide.now m.guide c.undo_latest.new.guide c.args.order.now m.order c.args.budget c.args.engine.now.state m.engine.state c.undo_latest.new.engine.state m.search c.undo_latest.new.search
-    c.in-Undo.conflict (left_by m.invariant.0) next.0 next.1 cut.err cut.stopped)
+    (rw cut.keeps.quiet.order (cut_undoing_by g.G.Guide.answers g.G.Guide.hears g.G.Guide.state a.guide.now m.guide.now c.undo_latest.new.self.guide.now a.order.now m.order.now c.args.budget a.engine.now.state m.engine.now.state c.undo_latest.new.self.engine.now.state m.search.now c.undo_latest.new.self.search.now
+    c.in-Undo.conflict (left_by c.loop-notes.invariant.proving) next.0 next.1 cut.err cut.stopped))
+
+pub returns-in_err-undo_latest-in-Undo-clause-ran : goal.returns-in_err-undo_latest-in-Undo-clause-ran
+returns-in_err-undo_latest-in-Undo-clause-ran g c = has_run_on c.store-store.ensures.valid c.loop-notes.invariant.runs c.undo_latest.ensures.keeps
 
 pub returns-in_err-undo_latest-in-Undo-clause-front : goal.returns-in_err-undo_latest-in-Undo-clause-front
 returns-in_err-undo_latest-in-Undo-clause-front g c =
-    let proving = c.loop-notes.invariant.0 in
-    let next = subst (IsNext c.args.budget c.loop-notes.engine.state c.loop-notes.search) c.in-Undo.is c.in_ok-end.ensures in
+    let m = c.loop-notes.machine in
+    let proving = c.loop-notes.invariant.proving in
+    let next = subst (IsNext c.args.budget m.engine.now.state m.search.now) c.in-Undo.is c.in_ok-end.ensures in
     let conflict = c.in-Undo.conflict in
     let now = g.K.Sink.state c.write_lemma.new.out in
-    (undoing_stops proving conflict c.undo_latest.new.engine.state c.undo_latest.new.search (text_here proving conflict next.1.var) now c.from_residual-in_err-undo_latest-in-Undo.result
+    (undoing_stops proving conflict c.undo_latest.new.self.engine.now.state c.undo_latest.new.self.search.now (text_here proving conflict next.1.var) now c.from_residual-in_err-undo_latest-in-Undo.result
     (stopped_with _ _ c.from_residual-in_err-undo_latest-in-Undo.ensures.1) c.in_err-undo_latest-in-Undo.ensures.err (a_lemma conflict next.0 next.2 (lemma_here proving conflict next.1))
     (lemma_written proving conflict c.as_slice.result.now next.1 now (Ok tt) c.as_slice.ensures c.in_ok-write_lemma-in-Undo.ensures.lemma)).front
 
 pub returns-in_err-note_last-in-Undo-clause-err : goal.returns-in_err-note_last-in-Undo-clause-err
 returns-in_err-note_last-in-Undo-clause-err g c =
+    let m = c.loop-notes.machine in
     let so_far = c.loop-notes.invariant in
-    let next = subst (IsNext c.args.budget c.loop-notes.engine.state c.loop-notes.search) c.in-Undo.is c.in_ok-end.ensures in
+    let next = subst (IsNext c.args.budget m.engine.now.state m.search.now) c.in-Undo.is c.in_ok-end.ensures in
     let done = c.in_ok-undo_latest-in-Undo.ensures in
     let turn = TurnUndo done.ok.0 c.in-Undo.conflict in
-    let after = c.undo_latest.new.search in
-    let takes = subst (λ b. TakesTurn b turn c.loop-notes.engine.state c.loop-notes.search c.undo_latest.new.engine.state after) so_far.2.guide done.ok.1 in
-    on_err _ c.from_residual-in_err-note_last-in-Undo.result (cut_behind so_far.0 turn c.undo_latest.new.engine.state after next.0 takes)
+    let after = c.undo_latest.new.self.search.now in
+    let takes = subst (λ b. TakesTurn b turn m.engine.now.state m.search.now c.undo_latest.new.self.engine.now.state after) so_far.runs.lent.guide done.ok.1 in
+    on_err _ c.from_residual-in_err-note_last-in-Undo.result (cut_behind so_far.proving turn c.undo_latest.new.self.engine.now.state after next.0 takes)
 
 pub returns-in_err-note_last-in-Undo-clause-stopped : goal.returns-in_err-note_last-in-Undo-clause-stopped
 returns-in_err-note_last-in-Undo-clause-stopped g c =
-    let m = c.loop-notes in
-    let next = subst (IsNext c.args.budget m.engine.state m.search) c.in-Undo.is c.in_ok-end.ensures in
+    let a = c.args.machine.now in
+    let m = c.loop-notes.machine in
+    let next = subst (IsNext c.args.budget m.engine.now.state m.search.now) c.in-Undo.is c.in_ok-end.ensures in
     let done = c.in_ok-undo_latest-in-Undo.ensures in
     let turn = TurnUndo done.ok.0 c.in-Undo.conflict in
-    let after = c.undo_latest.new.engine.state in
-    let takes = subst (λ b. TakesTurn b turn m.engine.state m.search after c.undo_latest.new.search) m.invariant.2.guide done.ok.1 in
+    let after = c.undo_latest.new.self.engine.now.state in
+    let takes = subst (λ b. TakesTurn b turn m.engine.now.state m.search.now after c.undo_latest.new.self.search.now) c.loop-notes.invariant.runs.lent.guide done.ok.1 in
     on_err _ c.from_residual-in_err-note_last-in-Undo.result
-    (cut_settling_by c.args.guide.now m.guide c.undo_latest.new.guide c.args.order.now m.order m.order c.args.budget c.args.engine.now.state m.engine.state m.search turn after after c.undo_latest.new.search
-    (left_by m.invariant.0) next.0 takes done.told (order_silent m.order after))
+    (rw done.keeps.quiet.order (cut_settling_by a.guide.now m.guide.now c.undo_latest.new.self.guide.now a.order.now m.order.now m.order.now c.args.budget a.engine.now.state m.engine.now.state m.search.now turn after after c.undo_latest.new.self.search.now
+    (left_by c.loop-notes.invariant.proving) next.0 takes done.told (order_silent m.order.now after)))
+
+pub returns-in_err-note_last-in-Undo-clause-ran : goal.returns-in_err-note_last-in-Undo-clause-ran
+returns-in_err-note_last-in-Undo-clause-ran g c = has_run_on c.store-store.ensures.valid c.loop-notes.invariant.runs c.undo_latest.ensures.keeps
 
 -- what was written then
 noted : (g : given.Over) (c : After-from_residual-in_err-note_last-in-Undo g)
-    → Stops c.args.book.now (is_some c.args.guide.now) (is_some c.args.order.now) c.args.budget c.args.engine.now.state c.undo_latest.new.search.journal (g.K.Sink.state c.args.out.now) (g.K.Sink.state c.write_lemma.new.out)
+    → Stops c.args.book.now (is_some c.args.machine.now.guide.now) (is_some c.args.machine.now.order.now) c.args.budget c.args.machine.now.engine.now.state c.undo_latest.new.self.search.now.journal (g.K.Sink.state c.args.out.now) (g.K.Sink.state c.write_lemma.new.out)
     c.from_residual-in_err-note_last-in-Undo.result
 noted g c =
-    let proving = c.loop-notes.invariant.0 in
-    let next = subst (IsNext c.args.budget c.loop-notes.engine.state c.loop-notes.search) c.in-Undo.is c.in_ok-end.ensures in
+    let m = c.loop-notes.machine in
+    let proving = c.loop-notes.invariant.proving in
+    let next = subst (IsNext c.args.budget m.engine.now.state m.search.now) c.in-Undo.is c.in_ok-end.ensures in
     let conflict = c.in-Undo.conflict in
     let now = g.K.Sink.state c.write_lemma.new.out in
     let done = c.in_ok-undo_latest-in-Undo.ensures.ok in
-    turn_stops proving (TurnUndo done.0 conflict) c.undo_latest.new.search (text_here proving conflict next.1.var) now c.from_residual-in_err-note_last-in-Undo.result (stopped_with _ _ c.from_residual-in_err-note_last-in-Undo.ensures.1) done.1.journal
+    turn_stops proving (TurnUndo done.0 conflict) c.undo_latest.new.self.search.now (text_here proving conflict next.1.var) now c.from_residual-in_err-note_last-in-Undo.result (stopped_with _ _ c.from_residual-in_err-note_last-in-Undo.ensures.1) done.1.journal
     (a_lemma conflict next.0 next.2 (lemma_here proving conflict next.1)) (lemma_written proving conflict c.as_slice.result.now next.1 now (Ok tt) c.as_slice.ensures c.in_ok-write_lemma-in-Undo.ensures.lemma)
 
 pub returns-in_err-note_last-in-Undo-clause-front : goal.returns-in_err-note_last-in-Undo-clause-front
-returns-in_err-note_last-in-Undo-clause-front g c = (noted g (goal.at.returns-in_err-note_last-in-Undo-clause-front g c).After-from_residual-in_err-note_last-in-Undo).front
+returns-in_err-note_last-in-Undo-clause-front g c =
+    (noted g (goal.at.returns-in_err-note_last-in-Undo-clause-front g c).After-from_residual-in_err-note_last-in-Undo).front
 
 pub returns-in_err-note_last-in-Undo-clause-counted : goal.returns-in_err-note_last-in-Undo-clause-counted
-returns-in_err-note_last-in-Undo-clause-counted g c = (noted g (goal.at.returns-in_err-note_last-in-Undo-clause-counted g c).After-from_residual-in_err-note_last-in-Undo).counted
+returns-in_err-note_last-in-Undo-clause-counted g c =
+    (noted g (goal.at.returns-in_err-note_last-in-Undo-clause-counted g c).After-from_residual-in_err-note_last-in-Undo).counted
 
 pub returns-in_err-note_last-in-Undo-clause-sink : goal.returns-in_err-note_last-in-Undo-clause-sink
-returns-in_err-note_last-in-Undo-clause-sink g c = (noted g (goal.at.returns-in_err-note_last-in-Undo-clause-sink g c).After-from_residual-in_err-note_last-in-Undo).sink
+returns-in_err-note_last-in-Undo-clause-sink g c =
+    (noted g (goal.at.returns-in_err-note_last-in-Undo-clause-sink g c).After-from_residual-in_err-note_last-in-Undo).sink
 
 -- ---- the settling after a turn
 
 -- the turn that was taken before it, in one of the two ways, and its lemma
 argued : (g : given.Over) (c : After-settle-in-loop-notes g)
-    → HasArgued (guiding g) c.args.budget c.args.book.now c.loop-notes.engine c.match-branch-4.engine c.loop-notes.search c.match-branch-4.search c.loop-notes.guide c.match-branch-4.guide c.loop-notes.invariant.0.argued c.match-branch-4.notes.numbers
+    → HasArgued (guiding g) c.args.budget c.args.book.now c.loop-notes.machine.engine.now c.match-branch-4.machine.engine.now c.loop-notes.machine.search.now c.match-branch-4.machine.search.now c.loop-notes.machine.guide.now c.match-branch-4.machine.guide.now c.loop-notes.invariant.proving.argued c.match-branch-4.notes.numbers
     (g.K.Sink.state c.loop-notes.out) (g.K.Sink.state c.match-branch-4.out)
 argued g c =
-    let m = c.loop-notes in
-    let proving = m.invariant.0 in
+    let m = c.loop-notes.machine in
+    let proving = c.loop-notes.invariant.proving in
     let answers = g.G.Guide.answers in
     let hears = g.G.Guide.hears in
     let state = g.G.Guide.state in
@@ -254,67 +317,110 @@ argued g c =
     elim c.match-branch-4.branch [
       | in-Decide+in_ok-decide-in-Decide w ↦
           let done = w.in_ok-decide-in-Decide.ensures in
-          argued_alike w.engine-is w.search-is w.guide-is (ap (λ (n : Notes). n.numbers) w.notes-is) (ap g.K.Sink.state w.out-is)
-          (argued_deciding answers hears state c.args.budget book m.engine _ m.search _ m.guide _ _ can proving.argued m.notes.numbers (g.K.Sink.state m.out) w.in_ok-decide-in-Decide.field-0 w.in-Decide.is done.ok done.decisions done.counts done.stays proving.numbered)
+          argued_alike (λ i. (w.machine-is i).engine.now) (λ i. (w.machine-is i).search.now) (λ i. (w.machine-is i).guide.now) (ap (λ (n : Notes). n.numbers) w.notes-is) (ap g.K.Sink.state w.out-is)
+          (argued_deciding answers hears state c.args.budget book m.engine.now _ m.search.now _ m.guide.now _ _ can proving.argued c.loop-notes.notes.numbers (g.K.Sink.state c.loop-notes.out) w.in_ok-decide-in-Decide.field-0 w.in-Decide.is done.ok done.keeps.decisions done.keeps.quiet.counts done.keeps.quiet.stays proving.numbered)
       | in-Undo+in_ok-write_lemma-in-Undo+in_ok-undo_latest-in-Undo+in_ok-note_last-in-Undo w ↦
           let done = w.in_ok-undo_latest-in-Undo.ensures in
           let conflict = w.in-Undo.conflict in
-          let next = subst (IsNext c.args.budget m.engine.state m.search) w.in-Undo.is can in
+          let next = subst (IsNext c.args.budget m.engine.now.state m.search.now) w.in-Undo.is can in
           let now = g.K.Sink.state w.write_lemma.new.out in
           let numbered = subst (λ (n : LemmaNumbers). AreNumbers proving.argued.undone n) (sym w.in_ok-write_lemma-in-Undo.ensures.numbers) proving.numbered in
-          argued_alike w.engine-is w.search-is w.guide-is (ap (λ (n : Notes). n.numbers) w.notes-is) (ap g.K.Sink.state w.out-is)
-          (argued_undoing answers hears state c.args.budget book m.engine _ m.search _ m.guide _ _ can proving.argued _ (g.K.Sink.state m.out) conflict (text_here proving conflict next.1.var) now w.in-Undo.is (lemma_here proving conflict next.1)
-          (lemma_written proving conflict w.as_slice.result.now next.1 now (Ok tt) w.as_slice.ensures w.in_ok-write_lemma-in-Undo.ensures.lemma) done.ok done.told done.decisions done.counts done.stays
-          (w.in_ok-note_last-in-Undo.ensures proving.argued.undone m.search.journal done.ok.0 conflict (w.journal.ensures ∙ done.ok.1.journal) numbered))
+          argued_alike (λ i. (w.machine-is i).engine.now) (λ i. (w.machine-is i).search.now) (λ i. (w.machine-is i).guide.now) (ap (λ (n : Notes). n.numbers) w.notes-is) (ap g.K.Sink.state w.out-is)
+          (argued_undoing answers hears state c.args.budget book m.engine.now _ m.search.now _ m.guide.now _ _ can proving.argued _ (g.K.Sink.state c.loop-notes.out) conflict (text_here proving conflict next.1.var) now w.in-Undo.is (lemma_here proving conflict next.1)
+          (lemma_written proving conflict w.as_slice.result.now next.1 now (Ok tt) w.as_slice.ensures w.in_ok-write_lemma-in-Undo.ensures.lemma) done.ok done.told done.keeps.decisions done.keeps.quiet.counts done.keeps.quiet.stays
+          (w.in_ok-note_last-in-Undo.ensures proving.argued.undone m.search.now.journal done.ok.0 conflict (w.journal.ensures ∙ done.ok.1.journal) numbered))
     ]
+
+-- and nothing was settled in it
+quiet : (g : given.Over) (c : After-settle-in-loop-notes g) → KeepsOrder c.loop-notes.machine c.match-branch-4.machine
+quiet g c = elim c.match-branch-4.branch [
+  | in-Decide+in_ok-decide-in-Decide w ↦ rw w.machine-is w.in_ok-decide-in-Decide.ensures.keeps.quiet
+  | in-Undo+in_ok-write_lemma-in-Undo+in_ok-undo_latest-in-Undo+in_ok-note_last-in-Undo w ↦ rw w.machine-is w.in_ok-undo_latest-in-Undo.ensures.keeps.quiet
+]
 
 pub loop-notes-smaller : goal.loop-notes-smaller
 loop-notes-smaller g c =
     let taken = (argued g (goal.at.loop-notes-smaller g c).After-settle-in-loop-notes).taken in
-    fewer_left c.loop-notes.search.journal c.match-branch-4.search.journal taken.turn c.args.budget taken.left taken.takes.journal
+    rw c.settle-in-loop-notes.ensures.search (fewer_left c.loop-notes.machine.search.now.journal c.match-branch-4.machine.search.now.journal taken.turn c.args.budget taken.left taken.takes.journal)
 
 pub loop-notes-preserved : goal.loop-notes-preserved
 loop-notes-preserved g c =
-    let m = c.loop-notes.engine in
+    let a = c.args.machine.now in
+    let m = c.loop-notes.machine in
+    let t = c.match-branch-4.machine in
+    let n = c.settle-in-loop-notes.new.self in
     let so_far = c.loop-notes.invariant in
-    let turned = argued g (goal.at.loop-notes-preserved g c).After-settle-in-loop-notes in
-    let after = c.settle-in-loop-notes.new.self in
+    let at = (goal.at.loop-notes-preserved g c).After-settle-in-loop-notes in
     let settle = c.settle-in-loop-notes.ensures in
-    let settled = settled_alike (ordering g) (is_some c.args.order.now) c.in_ok-settle-2.field-0 c.match-branch-4.engine after c.loop-notes.order c.settle-in-loop-notes.new.order so_far.2.order c.in_ok-settle-2.ensures.ok in (
-      proving_goes_on (guiding g) (ordering g) c.args.guide.now c.loop-notes.guide c.match-branch-4.guide c.args.order.now c.loop-notes.order c.settle-in-loop-notes.new.order c.args.budget c.args.book.now c.args.engine.now.state
-          m c.loop-notes.search c.in_ok-settle-2.field-0 c.match-branch-4.engine after c.match-branch-4.search c.loop-notes.notes.numbers c.match-branch-4.notes.numbers
-          (g.K.Sink.state c.args.out.now) (g.K.Sink.state c.loop-notes.out) (g.K.Sink.state c.match-branch-4.out) so_far.0 so_far.2.guide turned settled,
-      counts_then c.args.engine.now m c.match-branch-4.engine after c.args.steps.now c.loop-notes.steps c.settle-in-loop-notes.new.steps so_far.1 turned.taken.counts.checks settle.asked.later settle.checks,
-      record { guide = turned.taken.stays ∙ so_far.2.guide; order = settle.stays ∙ so_far.2.order },
-    )
-
-pub returns-in_err-settle-2 : goal.returns-in_err-settle-2
-returns-in_err-settle-2 g c =
-    let m = c.loop-notes.engine in
-    let before = c.loop-notes.search in
-    let so_far = c.loop-notes.invariant in
-    let turned = argued g (goal.at.returns-in_err-settle-2 g c).After-settle-in-loop-notes in
-    let taken = turned.taken in
-    let after = c.settle-in-loop-notes.new.self in
-    let settle = c.settle-in-loop-notes.ensures in
-    let guided = is_some c.args.guide.now in
-    let ordered = is_some c.args.order.now in
-    let result = c.from_residual-in_err-settle-2.result in
-    let takes = subst (λ b. TakesTurn b taken.turn m.state before c.match-branch-4.engine.state c.match-branch-4.search) so_far.2.guide taken.takes in
-    let cut = subst (λ b. IsInterrupted None b c.match-branch-4.engine after) so_far.2.order c.in_err-settle-2.ensures.err.interrupted in
-    let stops = turn_stops so_far.0 taken.turn c.match-branch-4.search turned.more (g.K.Sink.state c.match-branch-4.out) result (stopped_with _ _ c.from_residual-in_err-settle-2.ensures.1) taken.takes.journal turned.follows turned.writes in
+    let settled = settled_on (ordering g) (is_some a.order.now) c.in_ok-settle-2.field-0 m t n so_far.runs.lent.order (quiet g at) c.in_ok-settle-2.ensures.ok in
     record {
-      ok = search rules;
-      err = on_err _ result (cut_settling guided ordered c.args.budget c.args.engine.now.state m.state before taken.turn c.match-branch-4.engine after c.match-branch-4.search so_far.0.by.running taken.left takes cut);
-      stopped = on_err _ result
-          (cut_settling_by c.args.guide.now c.loop-notes.guide c.match-branch-4.guide c.args.order.now c.loop-notes.order c.settle-in-loop-notes.new.order c.args.budget c.args.engine.now.state m.state before taken.turn c.match-branch-4.engine.state after.state
-          c.match-branch-4.search (left_by so_far.0) taken.left takes taken.step (order_stops c.loop-notes.order c.settle-in-loop-notes.new.order c.match-branch-4.engine after c.in_err-settle-2.ensures.err));
-      front = stops.front;
-      counted = stops.counted;
-      sink = stops.sink;
-      decisions = interrupted_has ordered c.match-branch-4.engine after c.match-branch-4.search cut taken.decisions;
-      counts = counts_then c.args.engine.now m c.match-branch-4.engine after c.args.steps.now c.loop-notes.steps c.settle-in-loop-notes.new.steps so_far.1 taken.counts.checks settle.asked.later settle.checks;
-      lent = record { guide = taken.stays ∙ so_far.2.guide; order = settle.stays ∙ so_far.2.order };
+      proving = rw (settle.search, settle.guide) (proving_goes_on (guiding g) (ordering g) a.guide.now m.guide.now t.guide.now a.order.now m.order.now n.order.now c.args.budget c.args.book.now a.engine.now.state
+          m.engine.now m.search.now c.in_ok-settle-2.field-0 t.engine.now n.engine.now t.search.now c.loop-notes.notes.numbers c.match-branch-4.notes.numbers
+          (g.K.Sink.state c.args.out.now) (g.K.Sink.state c.loop-notes.out) (g.K.Sink.state c.match-branch-4.out) so_far.proving so_far.runs.lent.guide (argued g at) settled);
+      runs = runs_then so_far.runs (quiet g at) settle.runs;
+    }
+
+pub returns-in_err-settle-2-clause-err : goal.returns-in_err-settle-2-clause-err
+returns-in_err-settle-2-clause-err g c =
+    let a = c.args.machine.now in
+    let m = c.loop-notes.machine in
+    let t = c.match-branch-4.machine in
+    let n = c.settle-in-loop-notes.new.self in
+    let so_far = c.loop-notes.invariant in
+    let at = (goal.at.returns-in_err-settle-2-clause-err g c).After-settle-in-loop-notes in
+    let taken = (argued g at).taken in
+    let takes = subst (λ b. TakesTurn b taken.turn m.engine.now.state m.search.now t.engine.now.state t.search.now) so_far.runs.lent.guide taken.takes in
+    let cut = interrupted_on (is_some a.order.now) m t n so_far.runs.lent.order (quiet g at) c.in_err-settle-2.ensures.err in
+    on_err _ c.from_residual-in_err-settle-2.result (rw c.settle-in-loop-notes.ensures.search
+    (cut_settling (is_some a.guide.now) (is_some a.order.now) c.args.budget a.engine.now.state m.engine.now.state m.search.now taken.turn t.engine.now n.engine.now t.search.now so_far.proving.by.running taken.left takes cut))
+
+pub returns-in_err-settle-2-clause-stopped : goal.returns-in_err-settle-2-clause-stopped
+returns-in_err-settle-2-clause-stopped g c =
+    let a = c.args.machine.now in
+    let m = c.loop-notes.machine in
+    let t = c.match-branch-4.machine in
+    let n = c.settle-in-loop-notes.new.self in
+    let so_far = c.loop-notes.invariant in
+    let at = (goal.at.returns-in_err-settle-2-clause-stopped g c).After-settle-in-loop-notes in
+    let taken = (argued g at).taken in
+    let takes = subst (λ b. TakesTurn b taken.turn m.engine.now.state m.search.now t.engine.now.state t.search.now) so_far.runs.lent.guide taken.takes in
+    on_err _ c.from_residual-in_err-settle-2.result (rw (c.settle-in-loop-notes.ensures.search, c.settle-in-loop-notes.ensures.guide)
+    (cut_settling_by a.guide.now m.guide.now t.guide.now a.order.now m.order.now n.order.now c.args.budget a.engine.now.state m.engine.now.state m.search.now taken.turn t.engine.now.state n.engine.now.state
+    t.search.now (left_by so_far.proving) taken.left takes taken.step (order_stops m.order.now n.order.now t.engine.now n.engine.now (broken_on m t n (quiet g at) c.in_err-settle-2.ensures.err))))
+
+pub returns-in_err-settle-2-clause-front : goal.returns-in_err-settle-2-clause-front
+returns-in_err-settle-2-clause-front g c =
+    let at = (goal.at.returns-in_err-settle-2-clause-front g c).After-settle-in-loop-notes in
+    let turned = argued g at in
+    rw c.settle-in-loop-notes.ensures.search (turn_stops c.loop-notes.invariant.proving turned.taken.turn c.match-branch-4.machine.search.now turned.more (g.K.Sink.state c.match-branch-4.out) c.from_residual-in_err-settle-2.result (stopped_with _ _ c.from_residual-in_err-settle-2.ensures.1)
+    turned.taken.takes.journal turned.follows turned.writes).front
+
+pub returns-in_err-settle-2-clause-counted : goal.returns-in_err-settle-2-clause-counted
+returns-in_err-settle-2-clause-counted g c =
+    let at = (goal.at.returns-in_err-settle-2-clause-counted g c).After-settle-in-loop-notes in
+    let turned = argued g at in
+    (turn_stops c.loop-notes.invariant.proving turned.taken.turn c.match-branch-4.machine.search.now turned.more (g.K.Sink.state c.match-branch-4.out) c.from_residual-in_err-settle-2.result (stopped_with _ _ c.from_residual-in_err-settle-2.ensures.1)
+    turned.taken.takes.journal turned.follows turned.writes).counted
+
+pub returns-in_err-settle-2-clause-sink : goal.returns-in_err-settle-2-clause-sink
+returns-in_err-settle-2-clause-sink g c =
+    let at = (goal.at.returns-in_err-settle-2-clause-sink g c).After-settle-in-loop-notes in
+    let turned = argued g at in
+    (turn_stops c.loop-notes.invariant.proving turned.taken.turn c.match-branch-4.machine.search.now turned.more (g.K.Sink.state c.match-branch-4.out) c.from_residual-in_err-settle-2.result (stopped_with _ _ c.from_residual-in_err-settle-2.ensures.1)
+    turned.taken.takes.journal turned.follows turned.writes).sink
+
+pub returns-in_err-settle-2-clause-ran : goal.returns-in_err-settle-2-clause-ran
+returns-in_err-settle-2-clause-ran g c =
+    let a = c.args.machine.now in
+    let m = c.loop-notes.machine in
+    let t = c.match-branch-4.machine in
+    let n = c.settle-in-loop-notes.new.self in
+    let so_far = c.loop-notes.invariant in
+    let at = (goal.at.returns-in_err-settle-2-clause-ran g c).After-settle-in-loop-notes in
+    let cut = interrupted_on (is_some a.order.now) m t n so_far.runs.lent.order (quiet g at) c.in_err-settle-2.ensures.err in
+    let settle = c.settle-in-loop-notes.ensures in
+    record {
       before = c.store-store.ensures.valid;
-      scoped = c.store-store.ensures.scoped;
+      on = runs_then so_far.runs (quiet g at) settle.runs;
+      decisions = rw settle.search (interrupted_has (is_some a.order.now) t.engine.now n.engine.now t.search.now cut (argued g at).taken.decisions);
     }

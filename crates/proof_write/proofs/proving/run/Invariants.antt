@@ -1,15 +1,19 @@
 use Rattle.std.proofs.Common.{◌-◌, length}
 use Rattle.palm_engine.specs.Following.{OrderFollows}
 use Rattle.palm_search.specs.Following.{GuideFollows}
-use Rattle.palm_search.specs.Leaves.{Counts, Lent}
+use Rattle.palm_search.specs.Machine.{RunsOn}
 use Rattle.proof_write.proofs.Running.{IsProving}
 use Rattle.proof_write.proofs.proving.run.Given as goal
 
 abbrev pub invariant-loop-notes : goal.invariant-loop-notes
 invariant-loop-notes g l =
-    IsProving (GuideFollows g.G.Guide.answers g.G.Guide.hears g.G.Guide.state) (OrderFollows g.O.Order.answers g.O.Order.hears g.O.Order.state) l.fn.guide l.guide l.fn.order l.order
-    l.budget l.book l.fn.engine.state l.engine.state l.search l.notes.numbers (g.K.Sink.state l.fn.out) (g.K.Sink.state l.out)
-    × Counts l.fn.engine l.engine l.fn.steps l.steps × Lent l.fn.guide l.guide l.fn.order l.order
+    let a = l.fn.machine in
+    let m = l.machine in
+    record {
+      proving : IsProving (GuideFollows g.G.Guide.answers g.G.Guide.hears g.G.Guide.state) (OrderFollows g.O.Order.answers g.O.Order.hears g.O.Order.state) a.guide.now m.guide.now a.order.now m.order.now
+          l.budget l.book a.engine.now.state m.engine.now.state m.search.now l.notes.numbers (g.K.Sink.state l.fn.out) (g.K.Sink.state l.out);
+      runs : RunsOn a m;
+    }
 
 abbrev pub decreases-loop-notes : goal.decreases-loop-notes
-decreases-loop-notes g l = l.budget - length l.search.journal
+decreases-loop-notes g l = l.budget - length l.machine.search.now.journal

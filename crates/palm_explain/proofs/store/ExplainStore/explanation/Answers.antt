@@ -1,4 +1,4 @@
-use Rattle.palm_explain.proofs.Reading.{one_value}
+use Rattle.palm_explain.proofs.NeededPlaces.{one_value}
 use Rattle.palm_explain.proofs.Stores.{on_ok}
 use Rattle.palm_explain.proofs.store.ExplainStore.explanation.Goals as goal
 

@@ -1,67 +1,41 @@
-use Rattle.std.proofs.Common.{◌≡◌, ◌<◌, ◌∙◌, Some, length, get_or, slice_get, sym, subst, arith}
-use Rattle.std.proofs.lemmas.List.{get_or_default}
-use Rattle.slab.specs.Slab.{ContainsKey, get}
+use Rattle.std.proofs.Common.{◌≡◌, ◌<◌, ◌∙◌, length, slice_get, Some, sym, ap, subst, arith}
+use Rattle.palm_base.proofs.cited.Members.{member_get}
+use Rattle.palm_explain.specs.Entries.{written}
 use Rattle.palm_explain.specs.Explanations.{Explanations, reasons_of}
-use Rattle.palm_explain.specs.Graph.{graph_of}
-use Rattle.palm_explain.proofs.Reading.{log_length, node_read, node_stands, read_antecedent, read_count, read_reason}
-use Rattle.palm_explain.proofs.Writes.{key_there}
+use Rattle.palm_explain.proofs.Stores.{entry_read, log_length, reasons_read}
 use Rattle.palm_explain.proofs.store.ExplainStore.reason_at.Goals as goal
 
-pub index-requires : goal.index-requires
-index-requires c =
+pub reason_in-requires-clause-counts : goal.reason_in-requires-clause-counts
+reason_in-requires-clause-counts c s m =
+    let rows = c.self.inside.rows.items in
+    let entries = c.self.inside.log.items in
+    let e = c.index-entry.result.now in
     let within = rw (← c.self.view_is) at c.requires.place in
-    let long = log_length (graph_of c.self.inside.nodes) c.self.inside.log.items in
-    omega (arith, within, long, c.self.inside.log.ok.0)
+    let long = log_length rows entries in
+    let at = entry_read entries c.args.place e (omega (arith, within, long)) c.index-entry.ensures in
+    rw (← c.deref.ensures.value) at ((c.self.invariant.entered.counted e (member_get entries c.args.place e at)).spans s (rw c.deref-2.ensures.value at m))
 
-pub index-requires-2 : goal.index-requires-2
-index-requires-2 c =
-    let s = c.self.inside.nodes in
-    let keys = c.self.inside.log.items in
+pub reason_in-requires-clause-within : goal.reason_in-requires-clause-within
+reason_in-requires-clause-within c =
+    let rows = c.self.inside.rows.items in
+    let entries = c.self.inside.log.items in
+    let e = c.index-entry.result.now in
     let within = rw (← c.self.view_is) at c.requires.place in
-    let long = log_length (graph_of s) keys in
-    let lt : c.args.place < length keys = omega (arith, within, long) in
-    node_stands s keys c.args.place c.index.result.now c.self.invariant.kept.graph.places lt c.index.ensures
-
-pub index-antecedent-requires : goal.index-antecedent-requires
-index-antecedent-requires c =
-    let s = c.self.inside.nodes in
-    let keys = c.self.inside.log.items in
-    let n = c.index-2.result.now in
-    let within = rw (← c.self.view_is) at c.requires.place in
-    let long = log_length (graph_of s) keys in
-    let lt : c.args.place < length keys = omega (arith, within, long) in
-    let count = read_count s keys c.args.place n lt (node_read s keys c.args.place c.index.result.now n lt c.index.ensures c.index-2.ensures) in
+    let long = log_length rows entries in
+    let at = entry_read entries c.args.place e (omega (arith, within, long)) c.index-entry.ensures in
     let below = rw (← c.self.view_is) at c.requires.index in
-    omega (arith, below, count, n.antecedents.ok.0)
-
-pub index-requires-3 : goal.index-requires-3
-index-requires-3 c =
-    let s = c.self.inside.nodes in
-    let keys = c.self.inside.log.items in
-    let n = c.index-2.result.now in
-    let within = rw (← c.self.view_is) at c.requires.place in
-    let long = log_length (graph_of s) keys in
-    let lt : c.args.place < length keys = omega (arith, within, long) in
-    let at = node_read s keys c.args.place c.index.result.now n lt c.index.ensures c.index-2.ensures in
-    let count = read_count s keys c.args.place n lt at in
-    let below = rw (← c.self.view_is) at c.requires.index in
-    let low : c.args.index < length n.antecedents.items = omega (arith, below, count) in
-    let is = c.index-antecedent.ensures ∙ get_or_default n.antecedents.items c.args.index c.index-antecedent.result.now 0 low in
-    subst (λ k. ContainsKey s k) (sym is) (key_there s (get_or n.antecedents.items c.args.index 0) (read_antecedent s keys c.args.place n lt at c.args.index c.self.invariant.kept.graph low))
+    let lt : c.args.index < length (written rows e.number e.spans.items) = subst (λ rs. c.args.index < length rs) (reasons_read rows entries c.args.place e at) below in
+    subst (λ ss. c.args.index < length (written c.deref.result.now e.number ss)) (sym c.deref-2.ensures.value) (subst (λ rs. c.args.index < length (written rs e.number e.spans.items)) (sym c.deref.ensures.value) lt)
 
 pub returns : goal.returns
 returns c =
-    let s = c.self.inside.nodes in
-    let keys = c.self.inside.log.items in
-    let n = c.index-2.result.now in
-    let m = c.index-3.result.now in
+    let rows = c.self.inside.rows.items in
+    let entries = c.self.inside.log.items in
+    let e = c.index-entry.result.now in
     let within = rw (← c.self.view_is) at c.requires.place in
-    let long = log_length (graph_of s) keys in
-    let lt : c.args.place < length keys = omega (arith, within, long) in
-    let at = node_read s keys c.args.place c.index.result.now n lt c.index.ensures c.index-2.ensures in
-    let count = read_count s keys c.args.place n lt at in
-    let below = rw (← c.self.view_is) at c.requires.index in
-    let low : c.args.index < length n.antecedents.items = omega (arith, below, count) in
-    let is = c.index-antecedent.ensures ∙ get_or_default n.antecedents.items c.args.index c.index-antecedent.result.now 0 low in
-    subst (λ (v : Explanations). slice_get (reasons_of v.log c.args.place) c.args.index ≡ Some m.pair) c.self.view_is
-    (read_reason s keys c.args.place n lt at c.args.index m low (subst (λ k. get s k ≡ Some m) is c.index-3.ensures))
+    let long = log_length rows entries in
+    let at = entry_read entries c.args.place e (omega (arith, within, long)) c.index-entry.ensures in
+    let got : slice_get (written rows e.number e.spans.items) c.args.index ≡ Some c.reason_in.result =
+    subst (λ ss. slice_get (written rows e.number ss) c.args.index ≡ Some c.reason_in.result) c.deref-2.ensures.value (subst (λ rs. slice_get (written rs e.number c.deref-2.result.now) c.args.index ≡ Some c.reason_in.result) c.deref.ensures.value c.reason_in.ensures) in
+    subst (λ (v : Explanations). slice_get (reasons_of v.log c.args.place) c.args.index ≡ Some c.reason_in.result) c.self.view_is
+    (ap (λ rs. slice_get rs c.args.index) (reasons_read rows entries c.args.place e at) ∙ got)

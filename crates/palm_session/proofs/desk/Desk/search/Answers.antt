@@ -6,13 +6,10 @@ use Rattle.palm_session.proofs.Led.{searched_led}
 use Rattle.palm_session.proofs.Running.{can_run, desk_stopped}
 use Rattle.palm_session.proofs.desk.Desk.search.Goals as goal
 
-pub search_by-requires-clause-initial : goal.search_by-requires-clause-initial
-search_by-requires-clause-initial g c =
-    (subst (λ (d : DeskView g.row.G.Denot g.row.O.Denot). IsHeld d.state) (sym c.self.view_is) c.requires.held).initial
-
-pub search_by-requires-clause-active : goal.search_by-requires-clause-active
-search_by-requires-clause-active g c =
-    (subst (λ (d : DeskView g.row.G.Denot g.row.O.Denot). IsHeld d.state) (sym c.self.view_is) c.requires.held).active
+pub search_by-requires-clause-listed : goal.search_by-requires-clause-listed
+search_by-requires-clause-listed g c =
+    let held = subst (λ (d : DeskView g.row.G.Denot g.row.O.Denot). IsHeld d.state) (sym c.self.view_is) c.requires.held in
+    record { initial = held.initial; active = held.active }
 
 pub search_by-requires-clause-can : goal.search_by-requires-clause-can
 search_by-requires-clause-can g c =

@@ -1,0 +1,2 @@
+pub mod OneRead
+pub mod cited

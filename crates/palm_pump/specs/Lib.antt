@@ -1,0 +1,4 @@
+pub mod Collected
+pub mod Pumping
+pub mod Streams
+pub mod Taking
