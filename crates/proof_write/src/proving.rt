@@ -152,7 +152,15 @@ fn run<F: Filter, G: Guide, O: Order, K: Sink, L: Ledger>(
     loop {
         match machine.next(budget)? {
             Next::Ended(end) => {
-                write_end(machine.engine, machine.search, book, &end, &mut notes, out, &mut printed)?;
+                write_end(
+                    machine.engine,
+                    machine.search,
+                    book,
+                    &end,
+                    &mut notes,
+                    out,
+                    &mut printed,
+                )?;
                 return Ok(end);
             }
             Next::Decide => {
