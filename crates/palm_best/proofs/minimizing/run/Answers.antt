@@ -1,4 +1,4 @@
-use Rattle.std.proofs.Common.{◌<◌, None, Option, is_some, length, refl, rules, sym, ap, ◌∙◌, subst}
+use Rattle.std.proofs.Common.{◌<◌, Option, is_some, length, refl, rules, sym, ap, ◌∙◌, subst}
 use Rattle.std.specs.Prelude.{Result, Ok, Err, IfOk}
 use Rattle.palm_events.proofs.cited.Reasons.{reasons_right}
 use Rattle.palm_engine.specs.Following.{Hearing, OrderFollows}

@@ -1,4 +1,4 @@
-use Rattle.std.proofs.Common.{None, Option, [], is_some, refl, rules, sym, ap, ◌∙◌, subst, append-nil, arith, Err, Ok}
+use Rattle.std.proofs.Common.{Option, [], is_some, refl, sym, ap, ◌∙◌, subst, append-nil, arith, Err, Ok}
 use Rattle.palm_engine.specs.Following.{Hearing, OrderFollows}
 use Rattle.palm_lang.specs.declared.stop.WriteStop.TheVariants.{NoMemory}
 use Rattle.palm_search.specs.Calls.{SearchView, TakesTurn, search_state}
