@@ -28,6 +28,7 @@ pub mod Same
 pub mod Scopes
 pub mod Settles
 pub mod Skipping
+pub mod Spanning
 pub mod Spending
 pub mod Staying
 pub mod Taking

@@ -5,6 +5,7 @@ pub mod Following
 pub mod Gathered
 pub mod Kept
 pub mod Posted
+pub mod Reasons
 pub mod Revising
 pub mod Settling
 pub mod Work

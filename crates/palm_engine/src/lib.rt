@@ -10,6 +10,7 @@ mod filtering;
 pub mod laws;
 mod posted;
 mod posting;
+mod reasons;
 mod revise;
 mod settle;
 mod values;

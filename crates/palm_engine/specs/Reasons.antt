@@ -1,0 +1,15 @@
+-- How reasons that stand side by side become spans.
+use Rattle.std.specs.Prelude.{ℤ, ℕ, ◌≤ℤ◌, List, take, drop, Contains}
+use Rattle.palm_base.specs.Ascending.{Ascends}
+use Rattle.palm_base.specs.declared.terms.Pair.{Pair}
+use Rattle.palm_filter.specs.declared.rule.Interval.{Interval}
+
+-- the values at the places of the interval
+abbrev pub values_in : List ℤ → Interval → List ℤ
+values_in vs i = drop i.first (take i.end vs)
+
+-- the values ascend, the pairs have each of them, and no other one of the variable that is between two of them
+pub record IsRun (pairs : List Pair) (x : ℕ) (values : List ℤ) : Type 0 where
+  pub ascends : Ascends values
+  pub each : (v : ℤ) → Contains values v → Contains pairs (record { var = x; value = v })
+  pub whole : (u v w : ℤ) → Contains values u → Contains values w → u ≤ℤ v → v ≤ℤ w → Contains pairs (record { var = x; value = v }) → Contains values v

@@ -1,0 +1,85 @@
+//! The reasons of a removal: as spans of values where the constraint's filter tells a rule of them, and else as a list of pairs.
+ghost use Rattle.std.specs.Prelude.{◌≡◌, ◌++◌, ◌≤◌, List, length, Contains, OnOk};
+ghost use Rattle.palm_base.specs.declared.terms.Pair.{Pair as PairTerm};
+ghost use Rattle.palm_domain.specs.Rows.{Ascends, declared_values, initial_of};
+ghost use Rattle.palm_domain.specs.declared.limits.TheConstants.{MOST_VALUES};
+ghost use Rattle.palm_explain.specs.Explanations.{AreSpanned, LacksExactly};
+ghost use Rattle.palm_filter.specs.Rules.{listed_pairs};
+ghost use Rattle.palm_model.specs.Removed.{pairs_of};
+ghost use Rattle.palm_engine.specs.Reasons.{IsRun, values_in};
+
+use palm_base::{NoMemory, Value, Var};
+use palm_domain::DomainStore;
+use palm_explain::Span;
+use palm_filter::{Interval, Intervals, Reasons};
+use std::alloc::{AllocError, Global};
+
+/// Room for the reasons of one removal, filled again and again.
+#[derive(Drop)]
+pub(crate) struct ReasonRoom {
+    /// The reasons, where they are listed.
+    pub(crate) pairs: Reasons,
+    pub(crate) intervals: Intervals,
+    /// What the intervals stand for.
+    pub(crate) spans: Vec<Span>,
+}
+
+impl ReasonRoom {
+    /// No reason.
+    pub(crate) fn new(alloc: Global) -> ReasonRoom {
+        ReasonRoom {
+            pairs: Reasons::new(alloc),
+            intervals: Intervals::new(alloc),
+            spans: Vec::new(alloc),
+        }
+    }
+}
+
+/// The declared values of an interval.
+fn values_in<'a>(store: &'a DomainStore, interval: &Interval) -> &'a [Value]
+    ensures values { result.now ≡ values_in (declared_values store.now interval.now.var) interval.now }
+    ensures ascend { Ascends (declared_values store.now interval.now.var) }
+    ensures small { length result.now ≤ MOST_VALUES }
+{
+    let Interval { var, first, end } = *interval;
+    if var.0 >= store.variables() {
+        return &[];
+    }
+    let values = store.initial_values(var);
+    let end = end.min(values.len());
+    &values[first.min(end)..end]
+}
+
+/// Appends the removals of values that stand side by side as a span, if there is one.
+fn push_span(var: Var, values: &[Value], out: &mut Vec<Span>) -> Result<(), NoMemory>
+    requires { length values.now ≤ MOST_VALUES }
+    ensures { (pairs reasons : List PairTerm) → IsRun pairs var values.now → AreSpanned pairs out.old.items reasons
+        → OnOk result (AreSpanned pairs out.new.items (reasons ++ pairs_of var values.now)) }
+{
+    if let (Some(low), Some(high)) = (values.first(), values.last()) {
+        out.push(Span {
+            var,
+            low: *low,
+            high: *high,
+            count: values.len(),
+        })?;
+    }
+    Ok(())
+}
+
+/// Replaces what `out` has by the spans of these intervals, all of whose values are removed.
+pub(crate) fn list_spans(
+    store: &DomainStore,
+    intervals: &[Interval],
+    out: &mut Vec<Span>,
+) -> Result<(), NoMemory>
+    ensures { (pairs : List PairTerm) → LacksExactly store.now pairs
+        → ((p : PairTerm) → Contains (listed_pairs (initial_of store.now) intervals.now) p → Contains pairs p)
+        → OnOk result (AreSpanned pairs out.new.items (listed_pairs (initial_of store.now) intervals.now)) }
+{
+    out.clear();
+    for interval in intervals {
+        push_span(interval.var, values_in(store, interval), out)?;
+    }
+    Ok(())
+}
