@@ -1,12 +1,13 @@
 //! The values of one variable.
-ghost use Rattle.std.specs.Prelude.{◌≡◌, ℤ, pos, ◌+ℤ◌, ◌<◌, ◌≤◌, ◌<ℤ◌, ◌≤ℤ◌, length, Contains, IfNone, IfOk, IfSome, MatchOption};
+ghost use Rattle.std.specs.Prelude.{◌≡◌, ℤ, pos, ◌+ℤ◌, ◌<◌, ◌≤◌, ◌<ℤ◌, ◌≤ℤ◌, int_lt, length, Contains, IfNone, IfOk, IfSome, MatchOption};
+ghost use Rattle.palm_base.specs.Order.{IsPartedAt};
 ghost use Rattle.palm_base.specs.Tells.{Tells};
 ghost use Rattle.palm_domain.specs.Rows.{Ascends, IsFormed, IsGapless, IsGreatestOf, IsLastBefore, IsLeastOf, IsNextFrom, IsNextRemovedFrom, IsWindow, StandsIn, values_with, values_without};
 
 use crate::limits::MOST_VALUES;
 use crate::marks::Marks;
 use crate::placed::Placed;
-use crate::places::{is_gapless, place_after, place_from, place_in_run, place_of};
+use crate::places::{count_below, is_gapless, place_after, place_from, place_in_run, place_of};
 use palm_base::{NoMemory, Value};
 use std::alloc::Global;
 use std::marker::Model;
@@ -104,6 +105,13 @@ impl Domain {
         ensures { result ≡ length self.now.initial }
     {
         self.initial.len() as u32
+    }
+
+    /// How many of the declared values are less than the number.
+    pub(crate) fn declared_below(&self, number: i64) -> usize
+        ensures { IsPartedAt (λ v. int_lt v number) self.now.initial result }
+    {
+        count_below(&self.initial, number)
     }
 
     /// How many values are present.

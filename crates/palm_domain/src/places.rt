@@ -1,7 +1,8 @@
 //! The place of a value in an ascending list.
-ghost use Rattle.std.specs.Prelude.{◌≡◌, ℕ, ℤ, pos, ◌+ℤ◌, ◌<◌, ◌≤◌, ◌≤ℤ◌, length, slice_index_or, slice_get, IfSome, MatchOption, Contains};
+ghost use Rattle.std.specs.Prelude.{◌≡◌, ℕ, ℤ, pos, ◌+ℤ◌, ◌<◌, ◌≤◌, ◌≤ℤ◌, int_lt, length, slice_index_or, slice_get, IfSome, MatchOption, Contains};
 ghost use Rattle.std.specs.Int.{int_gap};
 ghost use Rattle.palm_domain.specs.Places.{IsPlaceFrom};
+ghost use Rattle.palm_base.specs.Order.{IsPartedAt};
 ghost use Rattle.palm_base.specs.Tells.{Tells};
 ghost use Rattle.palm_domain.specs.Rows.{Ascends, HasRun, IsGapless};
 
@@ -26,6 +27,23 @@ pub(crate) fn place_after(values: &[Value], value: Value) -> usize
     match gapless_place(values, value) {
         Some(place) => place + 1,
         None => sparse_place_after(values, value),
+    }
+}
+
+/// How many of the values are less than the number. One beyond them is answered at once.
+pub(crate) fn count_below(values: &[Value], number: i64) -> usize
+    requires ascend { Ascends values.now }
+    requires filled { 0 < length values.now }
+    ensures { IsPartedAt (λ v. int_lt v number) values.now result }
+{
+    let least = values[0];
+    let greatest = values[values.len() - 1];
+    if number <= i64::from(least.0) {
+        0
+    } else if i64::from(greatest.0) < number {
+        values.len()
+    } else {
+        place_from(values, Value(number as i32))
     }
 }
 

@@ -1,5 +1,6 @@
 //! The domains of all variables.
-ghost use Rattle.std.specs.Prelude.{◌≡◌, ℕ, ℤ, pos, ◌+ℤ◌, ◌+◌, ◌-◌, ◌^◌, ◌<◌, ◌≤◌, ◌<ℤ◌, ◌≤ℤ◌, [], ◌∷◌, ◌++◌, length, All, Contains, IfNone, IfOk, IfSome, OnOk, OnErr, MatchOption, slice_set};
+ghost use Rattle.std.specs.Prelude.{◌≡◌, ℕ, ℤ, pos, ◌+ℤ◌, ◌+◌, ◌-◌, ◌^◌, ◌<◌, ◌≤◌, ◌<ℤ◌, ◌≤ℤ◌, [], ◌∷◌, ◌++◌, int_lt, length, All, Contains, IfNone, IfOk, IfSome, OnOk, OnErr, MatchOption, slice_set};
+ghost use Rattle.palm_base.specs.Order.{IsPartedAt};
 ghost use Rattle.palm_base.specs.Tells.{Tells};
 ghost use Rattle.palm_domain.specs.Rows.{Ascends, GainsPair, IsDeclared, IsGapless, IsGreatestOf, IsLastBefore, IsLeastOf, IsNextFrom, IsNextRemovedFrom, IsPlaced, IsPresent, IsWindow, LosesPair, declared_values, initial_of, present_of, present_values, values_with, values_without};
 
@@ -114,6 +115,14 @@ impl DomainStore {
         ensures { result ≡ length (declared_values self.now var) }
     {
         self.domain(var).initial_count()
+    }
+
+    /// How many of the variable's declared values are less than the number.
+    pub fn declared_below(&self, var: Var, number: i64) -> usize
+        requires { var < length self.now }
+        ensures { IsPartedAt (λ v. int_lt v number) (declared_values self.now var) result }
+    {
+        self.domain(var).declared_below(number)
     }
 
     /// How many values of the variable are present.

@@ -1,32 +1,19 @@
 -- The reasons of a value by a rule: by the constraint, the declared values and the value alone.
-use Rattle.std.specs.Prelude.{◌≡◌, ℕ, ℤ, Bool, not, ◌+ℤ◌, ◌≤ℤ◌, ◌&&◌, List, [], take, drop, filter, flat_map, int_lt}
-use Rattle.std.specs.List.{list_any}
+use Rattle.std.specs.Prelude.{◌≡◌, ℕ, ℤ, Bool, not, ◌+ℤ◌, ◌≤ℤ◌, List, [], take, drop, filter, flat_map, int_lt}
 use Rattle.std.specs.Ordering.{int_eq}
 use Rattle.palm_base.specs.declared.terms.Pair.{Pair}
-use Rattle.palm_model.specs.Constraint.{scope}
-use Rattle.palm_model.specs.Domains.{Domains, is_among, values_of}
+use Rattle.palm_model.specs.Domains.{Domains, values_of}
 use Rattle.palm_model.specs.Reason.{WantsReason, reason}
 use Rattle.palm_model.specs.Removed.{pairs_of}
-use Rattle.palm_model.specs.Table.{row_pairs}
 use Rattle.palm_model.specs.declared.constraint.Con.{Con}
-use Rattle.palm_model.specs.declared.constraint.Con.TheVariants.{Table}
 use Rattle.palm_filter.specs.declared.rule.Interval.{Interval}
 use Rattle.palm_filter.specs.declared.rule.Known.{Known}
 use Rattle.palm_filter.specs.declared.rule.Rule.{Rule}
-use Rattle.palm_filter.specs.declared.rule.Rule.TheVariants.{Empty, Above, Below, At, Other, Beside, Listed}
+use Rattle.palm_filter.specs.declared.rule.Rule.TheVariants.{Empty, Above, Below, At, Other, Listed}
 
 -- the declared values of y that pass the test, as pairs
 abbrev pub declared_passing : Domains → ℕ → (ℤ → Bool) → List Pair
 declared_passing initial y test = pairs_of y (filter test (values_of initial y))
-
--- the rows of a table, and none of any other constraint
-abbrev pub rows_of : Con → List (List ℤ)
-rows_of (Table vars rows) = rows
-rows_of _ = []
-
--- whether a row of the constraint has v in the column of x and w in that of y
-abbrev pub stands_beside : Con → ℕ → ℤ → ℕ → ℤ → Bool
-stands_beside c x v y w = list_any (λ row. is_among (row_pairs (scope c) row) x v && is_among (row_pairs (scope c) row) y w) (rows_of c)
 
 -- the declared pairs of an interval
 abbrev pub interval_pairs : Domains → Interval → List Pair
@@ -43,7 +30,6 @@ written initial c (Above s) intervals x v = declared_passing initial s.var (λ w
 written initial c (Below s) intervals x v = declared_passing initial s.var (λ w. not (int_lt (v +ℤ s.by) w))
 written initial c (At s) intervals x v = declared_passing initial s.var (λ w. int_eq w (v +ℤ s.by))
 written initial c (Other s) intervals x v = declared_passing initial s.var (λ w. not (int_eq w (v +ℤ s.by)))
-written initial c (Beside y) intervals x v = declared_passing initial y (stands_beside c x v y)
 written initial c Listed intervals x v = listed_pairs initial intervals
 
 -- written out, the rule is the reason of each value of x, whatever the domains are

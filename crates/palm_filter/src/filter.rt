@@ -1,5 +1,5 @@
 //! The trait of filters, and the one call by which support is asked for.
-ghost use Rattle.std.specs.Prelude.{◌≡◌, ◌+◌, ◌<◌, ℕ, [], length, true, false, Contains, IfOk, OnErr, OnOk};
+ghost use Rattle.std.specs.Prelude.{◌≡◌, ◌+◌, ◌<◌, ℕ, [], length, true, false, Contains, IfOk, IfSome, OnErr, OnOk};
 ghost use Rattle.palm_domain.specs.Rows.{initial_of, present_of};
 ghost use Rattle.palm_model.specs.Constraint.{scope, IsWellFormed};
 ghost use Rattle.palm_model.specs.Domains.{Has};
@@ -10,8 +10,7 @@ ghost use Rattle.palm_filter.specs.Rules.{FitsRule};
 ghost use Rattle.palm_filter.specs.Shapes.{FitsShape};
 
 use crate::heed::Heed;
-use crate::intervals::list_pairs;
-use crate::rule::{Intervals, Known, Rule};
+use crate::rule::{Intervals, Known};
 use crate::shape::Shape;
 use palm_base::{NoMemory, Pair, Steps, VarList};
 use palm_domain::DomainStore;
@@ -60,28 +59,20 @@ pub trait Filter: Drop {
 
     /// A rule for the reasons of the value, and of those above it, up to the last one that it is known of, where they lack
     /// support now. Where the rule is a list, that replaces what `out` has. Without memory what `out` has means nothing. A
-    /// filter that knows no rule lists the reason of the value alone.
-    fn rule(&self, store: &DomainStore, pair: &Pair, out: &mut Intervals) -> Result<Known, NoMemory>
+    /// filter that tells no rule is asked for the reason.
+    fn rule(
+        &self,
+        store: &DomainStore,
+        pair: &Pair,
+        out: &mut Intervals,
+    ) -> Result<Option<Known>, NoMemory>
         requires formed { IsWellFormed (length store.now) (meaning self.now) }
         requires present { Has (present_of store.now) pair.now.var pair.now.value }
         requires unsupported { LacksSupport (present_of store.now) (meaning self.now) pair.now.var pair.now.value }
         requires filled { AreFilled (present_of store.now) (scope (meaning self.now)) }
-        ensures { IfOk result (λ known. FitsRule (initial_of store.now) (present_of store.now) (meaning self.now) pair.now.var pair.now.value known out.new.items) }
+        ensures { IfOk result (λ told. IfSome told (λ known. FitsRule (initial_of store.now) (present_of store.now) (meaning self.now) pair.now.var pair.now.value known out.new.items)) }
     {
-        let mut reasons = Reasons::new(*out.allocator());
-        self.reason(
-            store,
-            Pair {
-                var: pair.var,
-                value: pair.value,
-            },
-            &mut reasons,
-        )?;
-        list_pairs(store, reasons.as_slice(), out)?;
-        Ok(Known {
-            rule: Rule::Listed,
-            last: pair.value,
-        })
+        Ok(None)
     }
 
     /// Replaces what `out` has by the removed pairs for which the value has no support. Without memory `out` is empty.

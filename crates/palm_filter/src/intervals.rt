@@ -1,84 +1,111 @@
-//! Reasons as lists of intervals of places among the declared values.
-ghost use Rattle.std.specs.Prelude.{◌≡◌, ◌++◌, ◌-◌, [], ◌∷◌, ◌<◌, ◌≤◌, ℤ, All, Contains, IfSome, OnOk, Some, length, slice_get};
-ghost use Rattle.palm_domain.specs.Rows.{Ascends, IsDeclared, initial_of};
-ghost use Rattle.palm_domain.specs.declared.limits.TheConstants.{MOST_VALUES};
-ghost use Rattle.palm_filter.specs.Rules.{interval_pairs, listed_pairs};
-ghost use Rattle.palm_model.specs.Domains.{Domains, values_of};
+//! Reasons by a rule as intervals of places among the declared values.
+ghost use Rattle.std.specs.Prelude.{◌≡◌, ◌++◌, ℕ, not, pos, ◌+ℤ◌, int_lt, length, OnOk};
+ghost use Rattle.std.specs.Ordering.{int_eq};
+ghost use Rattle.palm_base.specs.Order.{IsPartedAt};
+ghost use Rattle.palm_domain.specs.Rows.{declared_values, initial_of};
+ghost use Rattle.palm_filter.specs.Rules.{declared_passing, interval_pairs, listed_pairs, written};
+ghost use Rattle.palm_model.specs.Domains.{Domains};
+ghost use Rattle.palm_model.specs.declared.constraint.Con.{Con};
 
-use crate::rule::{Interval, Intervals};
-use palm_base::{NoMemory, Pair, Value, Var};
+use crate::rule::{Interval, Intervals, Rule, Shift};
+use palm_base::{NoMemory, Value, Var};
 use palm_domain::DomainStore;
 
-/// The place of a value that stands among ascending ones.
-fn place_of(values: &[Value], value: &Value) -> usize
-    requires ascend { Ascends values.now }
-    requires stands { Contains values.now value.now }
-    ensures { slice_get values.now result ≡ Some value.now }
+/// How many values the variable was declared with, and none where there is no such variable.
+fn count_of(store: &DomainStore, var: &Var) -> usize
+    ensures { result ≡ length (declared_values store.now var.now) }
 {
-    values.partition_point(|other| *other < *value)
-}
-
-/// Where the last interval starts, if it is one of the variable that ends at the place.
-fn start_of_last(intervals: &[Interval], var: &Var, place: usize) -> Option<usize>
-    ensures start { IfSome result (λ first. first ≤ place) }
-    ensures last { IfSome result (λ first. slice_get intervals.now (length intervals.now - 1) ≡ Some (record { var = var.now; first = first; end = place })) }
-{
-    let last = intervals.last()?;
-    if last.var == *var && last.first <= place && last.end == place {
-        Some(last.first)
+    if var.0 < store.variables() {
+        store.initial_count(*var) as usize
     } else {
-        None
+        0
     }
 }
 
-/// Where an interval of the variable starts that goes on to the place: with the last one, which is taken out, if that ends
-/// there, else at the place itself.
-fn take_start(var: &Var, place: usize, out: &mut Intervals) -> usize
-    ensures start { result ≤ place }
-    ensures same { (d : Domains) → listed_pairs d out.new.items ++ interval_pairs d (record { var = var.now; first = result; end = place }) ≡ listed_pairs d out.old.items }
+/// How many declared values of the shift's variable are less than the shifted value.
+fn count_below(store: &DomainStore, shift: &Shift, value: &Value) -> usize
+    ensures { IsPartedAt (λ w. int_lt w (value.now +ℤ shift.now.by)) (declared_values store.now shift.now.var) result }
 {
-    match start_of_last(out.as_slice(), var, place) {
-        Some(first) => {
-            let _ = out.pop();
-            first
-        }
-        None => place,
+    if shift.var.0 < store.variables() {
+        store.declared_below(shift.var, i64::from(value.0) + i64::from(shift.by))
+    } else {
+        0
     }
 }
 
-/// Appends the value at a place among the declared ones of the variable. The last interval grows, if the place follows it.
-fn push_place(var: &Var, place: usize, out: &mut Intervals) -> Result<(), NoMemory>
-    requires { place < MOST_VALUES }
-    ensures { (d : Domains) (v : ℤ) → slice_get (values_of d var.now) place ≡ Some v
-        → OnOk result (listed_pairs d out.new.items ≡ listed_pairs d out.old.items ++ record { var = var.now; value = v } ∷ []) }
+/// How many declared values of the shift's variable are at most the shifted value.
+fn count_up_to(store: &DomainStore, shift: &Shift, value: &Value) -> usize
+    ensures { IsPartedAt (λ w. int_lt w (value.now +ℤ shift.now.by +ℤ pos 1)) (declared_values store.now shift.now.var) result }
 {
-    let first = take_start(var, place, out);
-    out.push(Interval {
-        var: *var,
-        first,
-        end: place + 1,
-    })?;
-    Ok(())
+    if shift.var.0 < store.variables() {
+        store.declared_below(shift.var, i64::from(value.0) + i64::from(shift.by) + 1)
+    } else {
+        0
+    }
 }
 
-/// Appends declared pairs as intervals, one for each run of places.
-fn push_intervals(store: &DomainStore, pairs: &[Pair], out: &mut Intervals) -> Result<(), NoMemory>
-    requires { All (λ p. IsDeclared store.now p.var p.value) pairs.now }
-    ensures { OnOk result (listed_pairs (initial_of store.now) out.new.items ≡ listed_pairs (initial_of store.now) out.old.items ++ pairs.now) }
+/// Appends the declared values of the variable from a first place on up to before an end, if there are any.
+fn push_interval(var: &Var, first: usize, end: usize, out: &mut Intervals) -> Result<(), NoMemory>
+    ensures { (d : Domains) → OnOk result (listed_pairs d out.new.items ≡ listed_pairs d out.old.items ++ interval_pairs d (record { var = var.now; first = first; end = end })) }
 {
-    for pair in pairs {
-        let place = place_of(store.initial_values(pair.var), &pair.value);
-        push_place(&pair.var, place, out)?;
+    if first < end {
+        out.push(Interval {
+            var: *var,
+            first,
+            end,
+        })?;
     }
     Ok(())
 }
 
-/// Replaces what `out` has by declared pairs as intervals, one for each run of places. Without memory what `out` has means
-/// nothing.
-pub fn list_pairs(store: &DomainStore, pairs: &[Pair], out: &mut Intervals) -> Result<(), NoMemory>
-    requires { All (λ p. IsDeclared store.now p.var p.value) pairs.now }
-    ensures { OnOk result (listed_pairs (initial_of store.now) out.new.items ≡ pairs.now) }
+/// Appends the declared values of the shift's variable but the shifted value.
+fn push_others(
+    store: &DomainStore,
+    shift: &Shift,
+    value: &Value,
+    out: &mut Intervals,
+) -> Result<(), NoMemory>
+    ensures { OnOk result (listed_pairs (initial_of store.now) out.new.items
+        ≡ listed_pairs (initial_of store.now) out.old.items ++ declared_passing (initial_of store.now) shift.now.var (λ w. not (int_eq w (value.now +ℤ shift.now.by)))) }
 {
+    push_interval(&shift.var, 0, count_below(store, shift, value), out)?;
+    push_interval(
+        &shift.var,
+        count_up_to(store, shift, value),
+        count_of(store, &shift.var),
+        out,
+    )
+}
+
+/// Makes `out` the intervals of the reasons of the value by the rule; of a list it has them. Without memory what `out` has
+/// means nothing.
+pub fn write_out(
+    store: &DomainStore,
+    rule: &Rule,
+    value: &Value,
+    out: &mut Intervals,
+) -> Result<(), NoMemory>
+    ensures { (c : Con) (x : ℕ) → OnOk result (listed_pairs (initial_of store.now) out.new.items ≡ written (initial_of store.now) c rule.now out.old.items x value.now) }
+{
+    if let Rule::Listed = rule {
+        return Ok(());
+    }
     out.clear();
-    push_intervals(store, pairs, out)
+    match rule {
+        Rule::Empty | Rule::Listed => Ok(()),
+        Rule::Above(shift) => push_interval(
+            &shift.var,
+            count_below(store, shift, value),
+            count_of(store, &shift.var),
+            out,
+        ),
+        Rule::Below(shift) => push_interval(&shift.var, 0, count_up_to(store, shift, value), out),
+        Rule::At(shift) => push_interval(
+            &shift.var,
+            count_below(store, shift, value),
+            count_up_to(store, shift, value),
+            out,
+        ),
+        Rule::Other(shift) => push_others(store, shift, value, out),
+    }
 }

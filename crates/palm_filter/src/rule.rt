@@ -35,8 +35,6 @@ pub enum Rule {
     At(Shift),
     /// Each declared value of the variable but the shifted value.
     Other(Shift),
-    /// Each declared value of the variable that stands beside the value in a row of the constraint.
-    Beside(Var),
     /// Those of a list of intervals, in its order.
     Listed,
 }

@@ -1,8 +1,7 @@
 -- The reason that a filter wrote is a right one, by the law of the reasons, for what a store ensures of its values.
-use Rattle.std.proofs.Common.{◌≡◌, ℕ, ℤ, List, length, All, Contains, sym, subst}
+use Rattle.std.proofs.Common.{◌≡◌, ℕ, ℤ, List, length, All, sym, subst}
 use Rattle.std.proofs.lemmas.List.{length-map}
 use Rattle.palm_base.specs.Ascending.{Ascends}
-use Rattle.palm_base.proofs.cited.Members.{all_members}
 use Rattle.palm_base.specs.declared.terms.Pair.{Pair}
 use Rattle.palm_domain.specs.Rows.{Row, initial_of, present_of, IsPresent, IsDeclared}
 use Rattle.palm_model.specs.Constraint.{scope, IsFormed, IsWellFormed}
@@ -26,8 +25,3 @@ module _ (rows : List Row) (initial_ascend : All Ascends (initial_of rows)) (pre
         lacks = lacks;
         filled = filled;
       }))
-
--- the pairs of a right reason were declared
-pub right_declared : (rows : List Row) (c : Con) (x : ℕ) (v : ℤ) (reasons listed : List Pair) → listed ≡ reasons → IsReason (initial_of rows) (present_of rows) c x v reasons → All (λ p. IsDeclared rows p.var p.value) listed
-right_declared rows c x v reasons listed e right =
-    all_members (λ (p : Pair). IsDeclared rows p.var p.value) listed (λ p m. (right.removed p (subst (λ (ps : List Pair). Contains ps p) e m)).0)
