@@ -75,7 +75,7 @@ module _ (entries : List Entry) (rows now : List Row) (next : ℕ) (cid : Cid) (
     ];
     counted = λ e m.
         let c = are.counted e (kept_entry entries e m).0 in record {
-          reasons = c.reasons ∙ ap length (sym (kept_written e m));
+          fits = c.fits;
           spans = λ s n. c.spans s n ∙ ap length (sym (kept_span e m s n));
         };
   }

@@ -17,6 +17,7 @@ mod Rising
 mod RowNumbers
 mod RowSpans
 mod Slots
+mod Spanned
 mod Stores
 mod Taking
 mod Told

@@ -389,7 +389,7 @@ entered_also es rows next are = record {
         let g = member_unmap unmarked es f.0 f.1 in
         inr (g.0, g.1, ap (λ (z : Entry). z.pair) g.2 ∙ f.2, ap (λ (z : Entry). z.number) g.2 ∙ f.3)
   ];
-  counted = λ e m. let c = are.counted (unmarked e) (member_map unmarked es e m) in record { reasons = c.reasons; spans = c.spans };
+  counted = λ e m. let c = are.counted (unmarked e) (member_map unmarked es e m) in record { fits = c.fits; spans = c.spans };
 }
 
 -- marks are no part of what is entered

@@ -1,5 +1,5 @@
 -- What a store keeps: over rows that say the same, and with one more entry; and what is read of its log.
-use Rattle.std.proofs.Common.{◌≡◌, ◌≢◌, ℕ, ◌+◌, ◌<◌, ◌≤◌, false, List, [], ◌∷◌, ◌++◌, length, get_or, map, nat_lt, Bool, true, OnErr, OnOk, Result, Ok, Err, is_err, Contains, Some, slice_get, ◌⊎◌, inl, inr, sym, ap, ◌∙◌, subst, arith}
+use Rattle.std.proofs.Common.{◌≡◌, ◌≢◌, ℕ, ◌+◌, ◌^◌, ◌<◌, ◌≤◌, false, List, [], ◌∷◌, ◌++◌, length, get_or, map, nat_lt, Bool, true, OnErr, OnOk, Result, Ok, Err, is_err, Contains, Some, slice_get, ◌⊎◌, inl, inr, sym, ap, ◌∙◌, subst, arith}
 use Rattle.std.proofs.lemmas.List.{get_or_default, length-append, length-map, map-append}
 use Rattle.std.proofs.lemmas.List.Quantifiers.{all_pairs_push}
 use Rattle.std.proofs.lemmas.List.Elements.{Contains-append_left, Contains-push, Contains-push_cases}
@@ -17,7 +17,7 @@ use Rattle.palm_explain.specs.declared.firsts.Firsts.{Firsts}
 use Rattle.palm_explain.specs.declared.rows.Row.{Row}
 use Rattle.palm_explain.specs.declared.rows.TheConstants.{NO_NUMBER}
 use Rattle.palm_explain.specs.declared.spans.Span.{Span}
-use Rattle.palm_explain.specs.Entries.{AreEntered, AreSpansOf, IsCounted, IsWhole, log_of, removal_of, span_values, written}
+use Rattle.palm_explain.specs.Entries.{AreEntered, AreSpansOf, IsCounted, IsWhole, counted, log_of, removal_of, span_values, written}
 use Rattle.palm_explain.specs.Explanations.{log_bys, reasons_of}
 use Rattle.palm_explain.specs.Firsts.{AreFormedFirsts, first_of}
 use Rattle.palm_explain.specs.Rows.{AreFormedRows, number_at}
@@ -38,7 +38,7 @@ module _ (rows more : List Row) (n : ℕ) (one : AreFormedRows rows) (two : AreF
 
   counted_same : (e : Entry) → e.number ≤ n → IsCounted rows e → IsCounted more e
   counted_same e le is = record {
-    reasons = is.reasons ∙ ap length (sym (reasons_same e.number le e.spans.items));
+    fits = is.fits;
     spans = λ s m. is.spans s m ∙ ap length (sym (spans_same e.number le s));
   }
 
@@ -101,8 +101,8 @@ module _ (entries : List Entry) (rows more : List Row) (next : ℕ) (e : Entry) 
       map-append (removal_of more) entries (e ∷ []) ∙ ap (λ l. l ++ removal_of more e ∷ []) (log_same rows more next are.formed formed to back entries (below_next entries rows next are))
       ∙ ap (λ rs. log_of rows entries ++ record { pair = e.pair; by = e.by; reasons = rs } ∷ []) last
 
-  pub entered_pushed : (reasons : List Pair) → AreSpansOf rows next e.spans.items reasons → e.count ≡ length reasons → AreEntered (entries ++ e ∷ []) more (next + 1)
-  entered_pushed reasons spans count =
+  pub entered_pushed : (reasons : List Pair) → AreSpansOf rows next e.spans.items reasons → counted e.spans.items < 2 ^ 64 → AreEntered (entries ++ e ∷ []) more (next + 1)
+  entered_pushed reasons spans fits =
       let most = are.most in
       let now = spans_of_same rows more next are.formed formed to back e.spans.items reasons spans in record {
         rises = all_pairs_push (λ a b. a.number < b.number) entries e are.rises (λ k d lt.
@@ -127,7 +127,7 @@ module _ (entries : List Entry) (rows more : List Row) (next : ℕ) (e : Entry) 
         counted = λ f m. elim (Contains-push_cases entries e f m) [
           | inl o ↦ counted_same rows more next are.formed formed to back f (below_next entries rows next are f o) (are.counted f o)
           | inr q ↦ subst (IsCounted more) q (record {
-            reasons = count ∙ ap length (sym (ap (λ n. written more n e.spans.items) is ∙ now.written));
+            fits = fits;
             spans = λ s j. now.counts s j ∙ ap (λ n. length (span_values more n s)) (sym is);
           })
         ];

@@ -1,6 +1,6 @@
 -- The entries of the log: the reasons that their spans stand for, and what holds of all of them.
-use Rattle.std.specs.Prelude.{◌≡◌, ◌⊎◌, ℕ, ℤ, ◌<◌, ◌≤◌, false, List, [], map, length, Contains, Option, Some, None, slice_get}
-use Rattle.std.specs.List.{AllPairs, flat_map}
+use Rattle.std.specs.Prelude.{◌≡◌, ◌⊎◌, ℕ, ℤ, ◌^◌, ◌<◌, ◌≤◌, false, List, [], map, length, Contains, Option, Some, None, slice_get}
+use Rattle.std.specs.List.{AllPairs, flat_map, sum_by}
 use Rattle.palm_base.specs.declared.terms.Pair.{Pair}
 use Rattle.palm_model.specs.Log.{Removal}
 use Rattle.palm_explain.specs.declared.entry.Entry.{Entry}
@@ -32,6 +32,10 @@ span_pairs rows n s = pairs_with s.var (span_values rows n s)
 abbrev pub written : List Row → ℕ → List Span → List Pair
 written rows n spans = flat_map (span_pairs rows n) spans
 
+-- how many reasons the spans count
+abbrev pub counted : List Span → ℕ
+counted spans = sum_by (λ s. s.count) spans
+
 -- the spans stand for these reasons, and count them
 pub record AreSpansOf (rows : List Row) (n : ℕ) (spans : List Span) (reasons : List Pair) : Type 0 where
   pub written : written rows n spans ≡ reasons
@@ -50,9 +54,9 @@ log_of rows entries = map (removal_of rows) entries
 abbrev pub pairs_of : List Entry → List Pair
 pairs_of entries = map (λ e. e.pair) entries
 
--- the counts of an entry are right
+-- the counts of an entry are right, and its reasons can be counted
 pub record IsCounted (rows : List Row) (e : Entry) : Type 0 where
-  pub reasons : e.count ≡ length (written rows e.number e.spans.items)
+  pub fits : counted e.spans.items < 2 ^ 64
   pub spans : (s : Span) → Contains e.spans.items s → s.count ≡ length (span_values rows e.number s)
 
 -- the numbers rise, all are below the next one, and the rows know exactly them

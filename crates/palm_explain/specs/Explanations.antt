@@ -1,11 +1,13 @@
 -- The log of removals as its callers see it, what holds of every such log, and how a store of domains goes with it.
-use Rattle.std.specs.Prelude.{◌≡◌, ℕ, ℤ, ◌≤ℤ◌, ⊤, List, [], ◌∷◌, ◌++◌, map, Contains, slice_index_or}
+use Rattle.std.specs.Prelude.{◌≡◌, ◌↔◌, ℕ, ℤ, ◌≤ℤ◌, ⊤, List, [], ◌∷◌, ◌++◌, map, length, Contains, slice_index_or}
 use Rattle.palm_base.specs.declared.terms.Pair.{Pair}
 use Rattle.palm_base.specs.declared.terms.Cid.{Cid}
-use Rattle.palm_domain.specs.Rows.{Row, IsDeclared, initial_of, present_of}
+use Rattle.palm_domain.specs.Rows.{Row, Ascends, IsDeclared, initial_of, present_of}
 use Rattle.palm_model.specs.Domains.{without}
 use Rattle.palm_model.specs.Log.{Removal, NamesOfPair, log_pairs}
 use Rattle.palm_explain.specs.declared.restored.Restored.{Restored}
+use Rattle.palm_explain.specs.declared.spans.Span.{Span}
+use Rattle.palm_explain.specs.Entries.{pairs_with}
 
 -- the removals, the oldest first, and what the last withdrawal told of the variables of which it put values back
 pub record Explanations : Type 0 where
@@ -54,6 +56,20 @@ pub record NamesOfSome (log : List Removal) (x : ℕ) (values : List ℤ) (cid :
   pub value : ℤ
   pub among : Contains values value
   pub names : NamesOfPair log (record { var = x; value = value }) cid
+
+-- ---- spans of reasons
+
+-- the values are those of the span's variable from its low value to its high one among these pairs, ascending, and as many as it counts
+pub record IsSpanOf (pairs : List Pair) (s : Span) (values : List ℤ) : Type 0 where
+  pub ascends : Ascends values
+  pub each : (v : ℤ) → Contains values v ↔ ((s.low ≤ℤ v) × (v ≤ℤ s.high) × Contains pairs (record { var = s.var; value = v }))
+  pub count : s.count ≡ length values
+
+-- one after another the spans stand for these pairs
+pub data AreSpanned (pairs : List Pair) : List Span → List Pair → Type 0 where
+  spans_end : AreSpanned pairs [] []
+  spans_on : (s : Span) (spans : List Span) (values : List ℤ) (reasons : List Pair) → IsSpanOf pairs s values → AreSpanned pairs spans reasons
+      → AreSpanned pairs (s ∷ spans) (pairs_with s.var values ++ reasons)
 
 -- ---- domains
 

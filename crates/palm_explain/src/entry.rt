@@ -15,8 +15,6 @@ pub(crate) struct Entry {
     pub(crate) by: Cid,
     /// Stands while a walk is on its way. No mark stands between calls.
     pub(crate) mark: bool,
-    /// How many reasons there are.
-    pub(crate) count: usize,
     /// The reasons, in their order.
     pub(crate) spans: Vec<Span>,
 }

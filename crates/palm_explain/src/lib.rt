@@ -22,4 +22,5 @@ pub use laws::{
     withdrawals_add_up,
 };
 pub use restored::Restored;
+pub use spans::Span;
 pub use store::ExplainStore;

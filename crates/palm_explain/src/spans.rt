@@ -1,8 +1,8 @@
 //! The reasons of a removal by spans of values, and how a list of reasons is put into spans.
-ghost use Rattle.std.specs.Prelude.{◌≡◌, ℕ, ◌+◌, ◌-◌, ◌<◌, ◌≤◌, true, Some, length, drop, take, slice_get, Contains, IfOk};
+ghost use Rattle.std.specs.Prelude.{◌≡◌, ℕ, ◌+◌, ◌-◌, ◌^◌, ◌<◌, ◌≤◌, true, Some, length, drop, take, slice_get, Contains, IfOk, SomeIff};
 ghost use Rattle.palm_base.specs.Tells.{Tells};
 ghost use Rattle.palm_base.specs.declared.terms.Pair.{Pair as PairTerm};
-ghost use Rattle.palm_explain.specs.Entries.{AreSpansOf, pairs_with, span_pairs, span_values, written};
+ghost use Rattle.palm_explain.specs.Entries.{AreSpansOf, counted, pairs_with, span_pairs, span_values, written};
 ghost use Rattle.palm_explain.specs.Rows.{AreFormedRows, IsFormedRow, IsNext, WereRemoved, number_at, number_in, span_in};
 ghost use Rattle.palm_explain.specs.declared.spans.Span.{Span as SpanTerm};
 
@@ -12,13 +12,13 @@ use std::alloc::{AllocError, Global};
 
 /// Reasons that follow one another: the removals of the variable's values from `low` to `high` that were made before the
 /// removal whose reasons they are, by rising value.
-#[derive(Clone, Copy, Debug)]
-pub(crate) struct Span {
-    pub(crate) var: Var,
-    pub(crate) low: Value,
-    pub(crate) high: Value,
+#[derive(Clone, Copy, Debug, Default)]
+pub struct Span {
+    pub var: Var,
+    pub low: Value,
+    pub high: Value,
     /// How many there are.
-    pub(crate) count: usize,
+    pub count: u32,
 }
 
 /// Whether the next one of the reasons is of the variable, and stands at the place of its row.
@@ -34,7 +34,7 @@ fn follows(row: &Row, var: Var, reasons: &[Pair], next: usize, place: usize) -> 
 
 /// How many of the reasons from one on follow one another: they are of its variable, and stand side by side in its row.
 #[inline(never)]
-fn run_length(row: &Row, var: Var, reasons: &[Pair], start: usize) -> usize
+fn run_length(row: &Row, var: Var, reasons: &[Pair], start: usize) -> u32
     requires formed { IsFormedRow row.now }
     requires within { start < length reasons.now }
     requires there { (p : PairTerm) → slice_get reasons.now start ≡ Some p → (p.var ≡ var) × ((k : ℕ) × (number_in row.now.values.items row.now.numbers.items p.value ≡ Some k)) }
@@ -46,7 +46,7 @@ fn run_length(row: &Row, var: Var, reasons: &[Pair], start: usize) -> usize
 {
     let mut place = row.place_near(reasons[start].value, 0) + 1;
     let mut count = 1;
-    while follows(row, var, reasons, start + count, place) {
+    while count < u32::MAX && follows(row, var, reasons, start + count as usize, place) {
         place += 1;
         count += 1;
     }
@@ -77,7 +77,7 @@ fn span_at(rows: &[Row], reasons: &[Pair], start: usize) -> Span
     Span {
         var: first.var,
         low: first.value,
-        high: reason_at(reasons, start + count - 1).value,
+        high: reason_at(reasons, start + count as usize - 1).value,
         count,
     }
 }
@@ -92,11 +92,26 @@ pub(crate) fn spans_of(alloc: Global, rows: &[Row], reasons: &[Pair]) -> Result<
     let mut start = 0;
     while start < reasons.len() {
         let span = span_at(rows, reasons, start);
-        let count = span.count;
+        let count = span.count as usize;
         spans.push(span)?;
         start += count;
     }
     Ok(spans)
+}
+
+/// How many reasons the spans count, if a `usize` can tell.
+#[inline(always)]
+pub(crate) fn count_of(spans: &[Span]) -> Option<usize>
+    ensures { SomeIff result (counted spans.now < 2 ^ 64) (counted spans.now) }
+{
+    let mut count: usize = 0;
+    for span in spans {
+        let Some(more) = count.checked_add(span.count as usize) else {
+            return None;
+        };
+        count = more;
+    }
+    Some(count)
 }
 
 /// Whether so many values of the span were removed before the number.
@@ -162,8 +177,8 @@ pub(crate) fn reason_in(rows: &[Row], spans: &[Span], number: usize, index: usiz
 {
     let mut place = 0;
     let mut left = index;
-    while left >= span_of(spans, place).count {
-        left -= span_of(spans, place).count;
+    while left >= span_of(spans, place).count as usize {
+        left -= span_of(spans, place).count as usize;
         place += 1;
     }
     let span = span_of(spans, place);

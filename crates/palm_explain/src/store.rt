@@ -1,5 +1,5 @@
 //! The log of removals, with what each of them rests on.
-ghost use Rattle.std.specs.Prelude.{◌≡◌, ◌↔◌, ℕ, ℤ, ◌<◌, Some, [], ◌∷◌, ◌++◌, length, slice_get, Contains, MatchOption, OnOk, OnErr, vec_len};
+ghost use Rattle.std.specs.Prelude.{◌≡◌, ◌↔◌, ℕ, ℤ, ◌<◌, List, Some, [], ◌∷◌, ◌++◌, length, slice_get, Contains, MatchOption, OnOk, OnErr, vec_len};
 ghost use Rattle.palm_base.specs.Tells.{Tells};
 ghost use Rattle.palm_base.specs.declared.terms.Pair.{Pair as PairTerm};
 ghost use Rattle.palm_domain.specs.Rows.{initial_of};
@@ -8,7 +8,7 @@ ghost use Rattle.palm_model.specs.Event.{lost_pairs, vars_of};
 ghost use Rattle.palm_model.specs.Log.{IsListOf, Loses, NamesOfPair, log_pairs};
 ghost use Rattle.palm_explain.specs.Entries.{pairs_with};
 ghost use Rattle.palm_explain.specs.Needed.{AreNeeded};
-ghost use Rattle.palm_explain.specs.Explanations.{AreEnds, IsLinked, IsSpanned, LacksExactly, NamesOfSome, log_bys, reasons_of, restored_vars};
+ghost use Rattle.palm_explain.specs.Explanations.{AreEnds, AreSpanned, IsLinked, IsSpanned, LacksExactly, NamesOfSome, log_bys, reasons_of, restored_vars};
 
 use crate::entry::{Entry, place_of};
 use crate::firsts::Firsts;
@@ -17,7 +17,7 @@ use crate::naming::names_at;
 use crate::needing::{add_needed, cids_of};
 use crate::restored::Restored;
 use crate::rows::{NO_NUMBER, Row, number_of, put_number};
-use crate::spans::{reason_in, spans_of};
+use crate::spans::{Span, count_of, reason_in, spans_of};
 use crate::withdrawing::close_up;
 use palm_base::{Cid, CidList, NoMemory, Pair, Value, Var};
 use palm_domain::DomainStore;
@@ -71,11 +71,34 @@ impl ExplainStore {
         ensures ok { OnOk result (self.new ≡ record self.old { log = self.old.log ++ record { pair = pair; by = by; reasons = reasons.now } ∷ [] }) }
         ensures err { OnErr result (self.new ≡ self.old) }
     {
+        let spans = spans_of(*self.log.allocator(), &self.rows, reasons)?;
+        self.put(pair, by, spans)
+    }
+
+    /// Adds a removal behind the others, whose reasons are the removals that the spans stand for; without memory nothing changes.
+    pub fn enter_spans(&mut self, pair: Pair, by: Cid, spans: &[Span]) -> Result<(), NoMemory>
+        requires fresh { Contains (log_pairs self.old.log) pair → ⊥ }
+        requires spanned { (reasons : List PairTerm) × AreSpanned (log_pairs self.old.log) spans.now reasons }
+        ensures ok { (reasons : List PairTerm) → AreSpanned (log_pairs self.old.log) spans.now reasons
+            → OnOk result (self.new ≡ record self.old { log = self.old.log ++ record { pair = pair; by = by; reasons = reasons } ∷ [] }) }
+        ensures err { OnErr result (self.new ≡ self.old) }
+    {
+        let own = Vec::from_slice(*self.log.allocator(), spans)?;
+        self.put(pair, by, own)
+    }
+
+    /// Adds a removal with these spans behind the others; without memory nothing changes.
+    fn put(&mut self, pair: Pair, by: Cid, spans: Vec<Span>) -> Result<(), NoMemory>
+        requires fresh { Contains (log_pairs self.old.log) pair → ⊥ }
+        requires spanned { (reasons : List PairTerm) × AreSpanned (log_pairs self.old.log) spans.items reasons }
+        ensures ok { (reasons : List PairTerm) → AreSpanned (log_pairs self.old.log) spans.items reasons
+            → OnOk result (self.new ≡ record self.old { log = self.old.log ++ record { pair = pair; by = by; reasons = reasons } ∷ [] }) }
+        ensures err { OnErr result (self.new ≡ self.old) }
+    {
         let number = self.next;
-        if number == NO_NUMBER {
+        if number == NO_NUMBER || count_of(&spans).is_none() {
             return Err(NoMemory);
         }
-        let spans = spans_of(*self.log.allocator(), &self.rows, reasons)?;
         self.restored.reserve(self.log.len() + 1)?;
         self.log.reserve(1)?;
         self.firsts.note(&by, number)?;
@@ -85,7 +108,6 @@ impl ExplainStore {
             pair,
             by,
             mark: false,
-            count: reasons.len(),
             spans,
         });
         self.next = number + 1;
@@ -121,7 +143,7 @@ impl ExplainStore {
         requires { place < length self.now.log }
         ensures { result ≡ length (reasons_of self.now.log place) }
     {
-        self.log[place].count
+        count_of(&self.log[place].spans).unwrap()
     }
 
     /// A reason of the removal at a place.

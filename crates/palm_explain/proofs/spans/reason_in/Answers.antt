@@ -9,9 +9,9 @@ pub loop-left-preserved : goal.loop-left-preserved
 loop-left-preserved c =
     let rows = c.args.rows.now in
     let spans = c.args.spans.now in
-    let s = c.span_of-left.result in
-    let tested = ap (λ (z : Span). z.count) (some_same c.span_of.result s (sym c.span_of.ensures ∙ c.span_of-left.ensures)) in
-    let next = span_next rows c.args.number spans c.loop-left.place s c.loop-left.left c.span_of-left.ensures (c.requires.counts s (member_get spans c.loop-left.place s c.span_of-left.ensures)) (omega (arith, c.loop-left-test.true, tested)) c.loop-left.invariant.within in
+    let s = c.span_of-in-loop-left.result in
+    let tested = ap (λ (z : Span). z.count) (some_same c.span_of.result s (sym c.span_of.ensures ∙ c.span_of-in-loop-left.ensures)) in
+    let next = span_next rows c.args.number spans c.loop-left.place s c.loop-left.left c.span_of-in-loop-left.ensures (c.requires.counts s (member_get spans c.loop-left.place s c.span_of-in-loop-left.ensures)) (omega (arith, c.loop-left-test.true, tested)) c.loop-left.invariant.within in
     record { within = next.0; at = c.loop-left.invariant.at ∙ next.1 }
 
 pub value_in-value-requires-clause-within : goal.value_in-value-requires-clause-within

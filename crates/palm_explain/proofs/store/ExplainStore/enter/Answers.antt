@@ -1,12 +1,9 @@
-use Rattle.std.proofs.Common.{◌≡◌, ◌∙◌, ◌+◌, ◌++◌, ◌∷◌, [], false, Contains, length, vec_capacity, refl, sym, ap, subst, arith}
-use Rattle.palm_explain.specs.declared.entry.Entry.{Entry}
-use Rattle.palm_base.proofs.cited.Members.{member_same}
-use Rattle.palm_model.specs.Log.{Removal, log_pairs}
-use Rattle.palm_explain.specs.Entries.{AreSpansOf, IsWhole, log_of}
-use Rattle.palm_explain.specs.Explanations.{Explanations}
-use Rattle.palm_explain.specs.Rows.{WereRemoved, number_at}
-use Rattle.palm_explain.proofs.Reasons.{entry_pair, pair_entry}
-use Rattle.palm_explain.proofs.Stores.{entered_pushed, log_like, log_pushed, on_err, whole_like, whole_pushed}
+use Rattle.std.proofs.Common.{◌≡◌, ◌∙◌, sym, ap, subst}
+use Rattle.palm_model.specs.Log.{log_pairs}
+use Rattle.palm_explain.specs.Explanations.{AreSpanned, Explanations}
+use Rattle.palm_explain.specs.Rows.{number_at}
+use Rattle.palm_explain.proofs.Reasons.{pair_entry}
+use Rattle.palm_explain.proofs.Spanned.{list_spanned}
 use Rattle.palm_explain.proofs.store.ExplainStore.enter.Goals as goal
 
 pub spans_of-requires-clause-removed : goal.spans_of-requires-clause-removed
@@ -15,69 +12,15 @@ spans_of-requires-clause-removed c p m =
     let e = pair_entry rows c.self.inside.log.items p ((rw (← c.self.view_is) at c.requires.earlier) p m) in
     (e.0.number, ap (λ rs. number_at rs p) c.deref.ensures.value ∙ ap (number_at rows) (sym e.2) ∙ c.self.invariant.entered.found e.0 e.1)
 
-pub invariant_of-self-in_err-reserve-2 : goal.invariant_of-self-in_err-reserve-2
-invariant_of-self-in_err-reserve-2 c =
-    let rows = c.self.inside.rows.items in
-    subst (λ es. IsWhole es rows c.self.inside.next (vec_capacity c.reserve.new.self) c.self.inside.firsts) (sym c.reserve-2.ensures.items)
-    (whole_like c.self.inside.log.items rows rows c.self.inside.next (vec_capacity c.self.inside.restored) (vec_capacity c.reserve.new.self) c.self.inside.firsts c.self.inside.firsts c.self.invariant c.self.invariant.entered.formed (λ p. refl) c.reserve.ensures.capacity
-    c.self.invariant.formed (λ d k is. (k, is, omega arith)))
-
-pub invariant_of-self-in_err-note : goal.invariant_of-self-in_err-note
-invariant_of-self-in_err-note c =
-    let rows = c.self.inside.rows.items in
-    subst (λ es. IsWhole es rows c.self.inside.next (vec_capacity c.reserve.new.self) c.note.new.self) (sym c.reserve-2.ensures.items)
-    (whole_like c.self.inside.log.items rows rows c.self.inside.next (vec_capacity c.self.inside.restored) (vec_capacity c.reserve.new.self) c.self.inside.firsts c.note.new.self c.self.invariant c.self.invariant.entered.formed (λ p. refl) c.reserve.ensures.capacity
-    c.note.ensures.formed c.note.ensures.stays)
-
-pub invariant_of-self-in_err-put_number : goal.invariant_of-self-in_err-put_number
-invariant_of-self-in_err-put_number c =
-    let rows = c.self.inside.rows.items in
-    subst (λ es. IsWhole es c.put_number.new.rows.items c.self.inside.next (vec_capacity c.reserve.new.self) c.note.new.self) (sym c.reserve-2.ensures.items)
-    (whole_like c.self.inside.log.items rows c.put_number.new.rows.items c.self.inside.next (vec_capacity c.self.inside.restored) (vec_capacity c.reserve.new.self) c.self.inside.firsts c.note.new.self c.self.invariant c.put_number.ensures.formed c.in_err-put_number.ensures.err c.reserve.ensures.capacity
-    c.note.ensures.formed c.note.ensures.stays)
-
-pub returns-in_err-put_number-clause-err : goal.returns-in_err-put_number-clause-err
-returns-in_err-put_number-clause-err c =
-    let rows = c.self.inside.rows.items in
-    on_err c.from_residual-in_err-put_number.result _
-    (ap (λ es. let v : Explanations = record { log = log_of c.put_number.new.rows.items es; restored = c.reserve.new.self.items } in v) c.reserve-2.ensures.items
-    ∙ ap (λ l. let v : Explanations = record { log = l; restored = c.reserve.new.self.items } in v) (log_like c.self.inside.log.items rows c.put_number.new.rows.items c.self.inside.next c.self.invariant.entered c.put_number.ensures.formed c.in_err-put_number.ensures.err)
-    ∙ ap (λ rs. let v : Explanations = record { log = log_of rows c.self.inside.log.items; restored = rs } in v) c.reserve.ensures.items ∙ c.self.view_is)
-
-pub invariant_of-self-2 : goal.invariant_of-self-2
-invariant_of-self-2 c =
-    let rows = c.self.inside.rows.items in
-    let entries = c.self.inside.log.items in
-    let next = c.self.inside.next in
-    let reasons = c.args.reasons.now in
-    let e : Entry = record { number = next; pair = c.args.pair; by = c.args.by; mark = false; count = length reasons; spans = c.in_ok-spans.spans } in
-    let fresh : (f : Entry) → Contains entries f → f.pair ≡ e.pair → ⊥ = λ f m same. (rw (← c.self.view_is) at c.requires.fresh) (member_same (log_pairs (log_of rows entries)) f.pair e.pair same (entry_pair rows entries f m)) in
-    let removed : WereRemoved rows next reasons = λ p m.
-    let f = pair_entry rows entries p ((rw (← c.self.view_is) at c.requires.earlier) p m) in
-    (f.0.number, ap (number_at rows) (sym f.2) ∙ c.self.invariant.entered.found f.0 f.1, c.self.invariant.entered.below f.0 f.1) in
-    let spans : AreSpansOf rows next e.spans.items reasons = subst (λ rs. AreSpansOf rs next e.spans.items reasons) c.deref.ensures.value (c.in_ok-spans.ensures next (subst (λ rs. WereRemoved rs next reasons) (sym c.deref.ensures.value) removed)) in
-    let pushed = c.push_reserved.ensures.items ∙ ap (λ es. es ++ e ∷ []) c.reserve-2.ensures.items in
-    subst (λ es. IsWhole es c.put_number.new.rows.items (next + 1) (vec_capacity c.reserve.new.self) c.note.new.self) (sym pushed)
-    (whole_pushed entries rows c.put_number.new.rows.items next (vec_capacity c.self.inside.restored) (vec_capacity c.reserve.new.self) c.self.inside.firsts c.note.new.self e c.self.invariant
-    (entered_pushed entries rows c.put_number.new.rows.items next e c.self.invariant.entered c.put_number.ensures.formed c.if-number.false refl fresh c.in_ok-put_number.ensures.there c.put_number.ensures.others reasons spans refl) refl refl
-    (omega (arith, c.in_ok-reserve.ensures.ok, c.len.ensures)) c.note.ensures.formed c.note.ensures.stays c.in_ok-note.ensures.noted)
+pub put-requires-clause-spanned : goal.put-requires-clause-spanned
+put-requires-clause-spanned c = (
+  c.args.reasons.now,
+  subst (λ (v : Explanations). AreSpanned (log_pairs v.log) c.in_ok-spans.spans.items c.args.reasons.now) c.self.view_is
+      (list_spanned c.self.inside.log.items c.self.inside.rows.items c.self.inside.next c.self.invariant.entered c.in_ok-spans.spans.items c.args.reasons.now (rw (← c.self.view_is) at c.requires.earlier) (rw c.deref.ensures.value at c.in_ok-spans.ensures c.self.inside.next)),
+)
 
 pub returns-clause-ok : goal.returns-clause-ok
 returns-clause-ok c =
-    let rows = c.self.inside.rows.items in
-    let entries = c.self.inside.log.items in
-    let next = c.self.inside.next in
-    let reasons = c.args.reasons.now in
-    let e : Entry = record { number = next; pair = c.args.pair; by = c.args.by; mark = false; count = length reasons; spans = c.in_ok-spans.spans } in
-    let fresh : (f : Entry) → Contains entries f → f.pair ≡ e.pair → ⊥ = λ f m same. (rw (← c.self.view_is) at c.requires.fresh) (member_same (log_pairs (log_of rows entries)) f.pair e.pair same (entry_pair rows entries f m)) in
-    let removed : WereRemoved rows next reasons = λ p m.
-    let f = pair_entry rows entries p ((rw (← c.self.view_is) at c.requires.earlier) p m) in
-    (f.0.number, ap (number_at rows) (sym f.2) ∙ c.self.invariant.entered.found f.0 f.1, c.self.invariant.entered.below f.0 f.1) in
-    let spans : AreSpansOf rows next e.spans.items reasons = subst (λ rs. AreSpansOf rs next e.spans.items reasons) c.deref.ensures.value (c.in_ok-spans.ensures next (subst (λ rs. WereRemoved rs next reasons) (sym c.deref.ensures.value) removed)) in
-    let pushed = c.push_reserved.ensures.items ∙ ap (λ es. es ++ e ∷ []) c.reserve-2.ensures.items in
-    let log = ap (log_of c.put_number.new.rows.items) pushed
-    ∙ log_pushed entries rows c.put_number.new.rows.items next e c.self.invariant.entered c.put_number.ensures.formed c.if-number.false refl fresh c.in_ok-put_number.ensures.there c.put_number.ensures.others reasons spans in
-    let new : Removal = record { pair = c.args.pair; by = c.args.by; reasons = reasons } in
-    ap (λ l. let v : Explanations = record { log = l; restored = c.reserve.new.self.items } in v) log
-    ∙ ap (λ rs. let v : Explanations = record { log = log_of rows entries ++ new ∷ []; restored = rs } in v) c.reserve.ensures.items
-    ∙ ap (λ (v : Explanations). let w : Explanations = record v { log = v.log ++ new ∷ [] } in w) c.self.view_is
+    c.put.ensures.ok c.args.reasons.now
+    (subst (λ (v : Explanations). AreSpanned (log_pairs v.log) c.in_ok-spans.spans.items c.args.reasons.now) c.self.view_is
+    (list_spanned c.self.inside.log.items c.self.inside.rows.items c.self.inside.next c.self.invariant.entered c.in_ok-spans.spans.items c.args.reasons.now (rw (← c.self.view_is) at c.requires.earlier) (rw c.deref.ensures.value at c.in_ok-spans.ensures c.self.inside.next)))
