@@ -31,7 +31,7 @@ use Rattle.palm_agenda.specs.declared.loss.Loss.{Loss}
 use Rattle.palm_agenda.specs.Agenda.{Waiting, IsFormed, IsOver, mark_others, marked_whole, with_connected, without_connected}
 use Rattle.palm_engine.specs.declared.filtering.Filtering.{Filtering}
 use Rattle.palm_engine.specs.Kept.{AreConnected, AreHeeded, AreMarked, IsEmptyKept, IsHeededAs, IsInStep, IsEngine, state_of}
-use Rattle.palm_engine.specs.Changed.{NotesGain, NotesLoss, PutsBack, TakesOut, TellsLoss, widened_by}
+use Rattle.palm_engine.specs.Changed.{HasLost, NotesGain, NotesLoss, PutsBack, TakesOut, TellsLoss, widened_by}
 use Rattle.palm_engine.proofs.Scopes.{active_over, bare_widened, connected_is_active, connected_stays, heeded_stays, over_active, with_heeded, with_is_connected, without_heeded, without_is_connected}
 use Rattle.palm_engine.proofs.Taking.{without_push}
 use Rattle.palm_engine.proofs.Marking.{agreeing_marked, restored_marked, posted_marked}
@@ -86,41 +86,38 @@ gain_empty (Some x) after d e long inside kept notes = elim (empty_or_filled (va
 -- ---- a removal
 
 -- a removal that is entered, taken out of the domains and told to the agenda
-pub took_out : (f : Filtering) (store : List Row) (log : Explanations) (agenda : Waiting) (empty : Option ℕ) (p : Pair) (by : Cid) (reasons : List Pair) (loss : Loss)
+pub took_out : (f : Filtering) (log : Explanations) (g : Filtering) (p : Pair) (by : Cid) (reasons : List Pair)
     → LacksExactly f.store (log_pairs f.log.log) → IsPresent f.store p.var p.value
-    → initial_of store ≡ initial_of f.store → present_of store ≡ slice_set (present_of f.store) p.var (values_without p.value (present_values f.store p.var)) → LosesPair f.store store p.var p.value
     → log ≡ record (f.log) { log = f.log.log ++ record { pair = p; by = by; reasons = reasons } ∷ [] }
-    → IsFormed agenda → agenda.connected ≡ map (mark_others p.var loss) f.agenda.connected
-    → ((c : Cid) → Contains agenda.pending c ↔ (Contains f.agenda.pending c ⊎ IsOver f.agenda.connected p.var c))
-    → TellsLoss (present_of store) p loss → NotesLoss f.empty empty (present_of store) p.var
-    → TakesOut f p by reasons (record f { store = store; log = log; agenda = agenda; empty = empty })
-took_out f store log agenda empty p by reasons loss lacks has initial now loses logged formed connected pending told notes =
+    → HasLost (record f { log = log }) p g → TakesOut f p by reasons g
+took_out f log g p by reasons lacks has logged lost =
     let pairs = log_pairs f.log.log in
     let last : Removal = record { pair = p; by = by; reasons = reasons } in
-    let same : log_pairs log.log ≡ pairs ++ p ∷ [] = ap (λ (e : Explanations). log_pairs e.log) logged ∙ map-append (λ (r : Removal). r.pair) f.log.log (last ∷ []) in
+    let entered : g.log ≡ record (f.log) { log = f.log.log ++ last ∷ [] } = lost.log ∙ logged in
+    let same : log_pairs g.log.log ≡ pairs ++ p ∷ [] = ap (λ (e : Explanations). log_pairs e.log) entered ∙ map-append (λ (r : Removal). r.pair) f.log.log (last ∷ []) in
     let had : Has (without (initial_of f.store) pairs) p.var p.value = subst (λ d. Has d p.var p.value) lacks.present has in
     let declared : Has (initial_of f.store) p.var p.value = (without_has (initial_of f.store) pairs p.var p.value had).0 in
     record {
-      initial = initial;
-      loses = loses;
+      initial = lost.initial;
+      loses = lost.loses;
       removed = record {
-        declared = λ q m. subst (λ d. Has d q.var q.value) (sym initial) (elim (Contains-push_cases pairs p q (subst (λ ps. Contains ps q) same m)) [
+        declared = λ q m. subst (λ d. Has d q.var q.value) (sym lost.initial) (elim (Contains-push_cases pairs p q (subst (λ ps. Contains ps q) same m)) [
           | inl k ↦ lacks.declared q k
           | inr e ↦ subst (λ (r : Pair). Has (initial_of f.store) r.var r.value) e declared
         ]);
-        present = now
+        present = lost.present
             ∙ ap (λ d. slice_set d p.var (values_without p.value (values_of d p.var))) lacks.present
             ∙ sym (without_push (initial_of f.store) pairs p (has_declared (initial_of f.store) p.var p.value declared))
-            ∙ ap (λ ps. without (initial_of f.store) ps) (sym same) ∙ ap (λ d. without d (log_pairs log.log)) (sym initial);
+            ∙ ap (λ ps. without (initial_of f.store) ps) (sym same) ∙ ap (λ d. without d (log_pairs g.log.log)) (sym lost.initial);
       };
-      log = ap (λ (e : Explanations). e.log) logged;
-      formed = formed;
-      loss = loss;
-      told = told;
-      connected = connected;
-      pending = pending;
-      empty = notes;
-      checks = refl;
+      log = ap (λ (e : Explanations). e.log) entered;
+      formed = lost.formed;
+      loss = lost.loss;
+      told = lost.told;
+      connected = lost.connected;
+      pending = lost.pending;
+      empty = lost.empty;
+      checks = lost.checks;
     }
 
 -- ---- a withdrawal

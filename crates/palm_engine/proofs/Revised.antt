@@ -17,6 +17,9 @@ use Rattle.palm_events.proofs.cited.Names.{single}
 use Rattle.palm_events.proofs.cited.Reasons.{reasons_right, removal_right}
 use Rattle.palm_events.proofs.cited.Valid.{active_declared, has_removed}
 use Rattle.palm_agenda.specs.Agenda.{IsOver as IsOverConnected, mark_others}
+use Rattle.palm_explain.specs.Explanations.{AreSpanned}
+use Rattle.palm_explain.specs.declared.spans.Span.{Span}
+use Rattle.palm_engine.specs.Reasons.{IsToldBy}
 use Rattle.palm_engine.specs.declared.filtering.Filtering.{Filtering}
 use Rattle.palm_engine.specs.Settling.{Walks}
 use Rattle.palm_engine.specs.Settling.Walks.{walked_all, walked_empty, walked_past, walked_out}
@@ -187,3 +190,9 @@ reasons_logged f active owner p r filled has lacks q m =
     } in
     let right = removal_right reasons_right s (removed s owner p) owner p r.valid.ascend (r.valid.formed owner r.posted) removes in
     right.reasons q (subst (λ (d : Domains). Contains (reason (initial_of f.store) d owner.con p.var p.value) q) e m)
+
+-- and spans that stand for them where they were taken out do so
+pub reasons_told : (f : Filtering) (active : List Active) (owner : Active) (p : Pair) → IsRevising f active owner → AllFilled (present_of f.store) → Has (present_of f.store) p.var p.value → LacksSupport (present_of f.store) owner.con p.var p.value
+    → (spans out : List Span) → spans ≡ out → IsToldBy f.store (stated f owner p) out → AreSpanned (log_pairs f.log.log) spans (stated f owner p)
+reasons_told f active owner p r filled has lacks spans out e told =
+    subst (λ ss. AreSpanned (log_pairs f.log.log) ss (stated f owner p)) (sym e) (told (log_pairs f.log.log) r.kept.removed (reasons_logged f active owner p r filled has lacks))

@@ -1,20 +1,27 @@
 -- Values that stand side by side: a span of removals stands for them.
-use Rattle.std.proofs.Common.{◌≡◌, ℕ, suc, ℤ, ◌+◌, ◌-◌, ◌<◌, ◌≤◌, ◌≤ℤ◌, ◌<ℤ◌, ◌++◌, List, [], ◌∷◌, length, take, drop, get_or, min, slice_get, Contains, Some, inl, inr, refl, sym, ap, ◌∙◌, subst, arith, append-nil, append_assoc}
+use Rattle.std.proofs.Common.{◌≡◌, ℕ, suc, ℤ, ◌+◌, ◌-◌, ◌<◌, ◌≤◌, ◌≤ℤ◌, ◌<ℤ◌, ◌++◌, List, [], ◌∷◌, length, take, drop, get_or, min, slice_get, All, Contains, Some, inl, inr, refl, sym, ap, ◌∙◌, subst, arith, append-nil, append_assoc}
 use Rattle.std.proofs.lemmas.Grind.{flat_map-append}
 use Rattle.std.proofs.lemmas.Bool.{cases_lt}
 use Rattle.std.proofs.lemmas.Int.{ints}
-use Rattle.std.proofs.lemmas.List.{drop-take, drop_all, get_or-drop, get_or-take, length-drop, length-take-le, take_all, take_more}
+use Rattle.std.proofs.lemmas.List.{drop-take, drop_all, get_or-drop, get_or-take, length-drop, length-map, length-take-le, take_all, take_more}
 use Rattle.std.proofs.lemmas.Option.{get_or_from_slice_get, slice_get_within}
 use Rattle.palm_base.specs.declared.terms.Pair.{Pair}
 use Rattle.palm_base.proofs.cited.Members.{member_flat_map, member_map}
-use Rattle.palm_domain.specs.Rows.{Ascends, Row, declared_values, initial_of}
+use Rattle.palm_domain.specs.Rows.{Ascends, Row, IsDeclared, IsPresent, declared_values, initial_of, present_of}
 use Rattle.palm_domain.proofs.cited.Ascending.{get_or-ascends, get_or-rises, Ascends-from_adjacent, place_below}
-use Rattle.palm_explain.specs.Explanations.{AreSpanned, IsSpanOf, LacksExactly, pairs_with}
+use Rattle.palm_explain.specs.Entries.{pairs_with}
+use Rattle.palm_explain.specs.Explanations.{AreSpanned, IsSpanOf, LacksExactly}
 use Rattle.palm_explain.specs.Explanations.AreSpanned.{spans_end, spans_on}
 use Rattle.palm_explain.specs.declared.spans.Span.{Span}
-use Rattle.palm_filter.specs.Rules.{interval_pairs, listed_pairs}
+use Rattle.palm_filter.specs.Rules.{FitsRule, interval_pairs, listed_pairs, written}
 use Rattle.palm_filter.specs.declared.rule.Interval.{Interval}
-use Rattle.palm_model.specs.Domains.{Domains}
+use Rattle.palm_filter.specs.declared.rule.Known.{Known}
+use Rattle.palm_model.specs.Constraint.{IsFormed, IsWellFormed, scope}
+use Rattle.palm_model.specs.Domains.{Domains, Has}
+use Rattle.palm_model.specs.Reason.{AreFilled, reason}
+use Rattle.palm_model.specs.Support.{LacksSupport}
+use Rattle.palm_model.specs.declared.constraint.Con.{Con}
+use Rattle.palm_model.proofs.cited.Formed.{well_formed_formed}
 use Rattle.palm_engine.specs.Reasons.{IsRun, values_in}
 
 -- ---- a part of ascending values
@@ -126,3 +133,20 @@ interval_run rows pairs i lacks rise all =
 -- the pairs of one interval are among those of all
 pub one_listed : (d : Domains) (intervals : List Interval) (k : ℕ) (i : Interval) → k < length intervals → i ≡ get_or intervals k i → (p : Pair) → Contains (interval_pairs d i) p → Contains (listed_pairs d intervals) p
 one_listed d intervals k i lt at p m = member_flat_map (λ (j : Interval). interval_pairs d j) intervals i p (k, lt, sym at) m
+
+-- ---- rules
+
+-- the rule of a value, written out, is the value's reason
+pub ruled : (rows : List Row) → All Ascends (initial_of rows) → All Ascends (present_of rows) → ((x : ℕ) (v : ℤ) → IsPresent rows x v → IsDeclared rows x v)
+    → (c : Con) (x : ℕ) (v : ℤ) → IsWellFormed (length rows) c → Has (present_of rows) x v → LacksSupport (present_of rows) c x v → AreFilled (present_of rows) (scope c)
+    → (known : Known) (intervals : List Interval) → v ≤ℤ known.last → FitsRule (initial_of rows) (present_of rows) c x v known intervals → written (initial_of rows) c known.rule intervals x v ≡ reason (initial_of rows) (present_of rows) c x v
+ruled rows initial_ascend present_ascend inside c x v formed present lacks filled known intervals last fits =
+    fits v (omega (arith, ints)) last (record {
+      initial_ascend = initial_ascend;
+      present_ascend = present_ascend;
+      inside = inside;
+      formed = subst (λ n. IsFormed n c) (sym (length-map rows (λ (r : Row). r.initial))) (well_formed_formed (length rows) c formed);
+      present_value = present;
+      lacks = lacks;
+      filled = filled;
+    })

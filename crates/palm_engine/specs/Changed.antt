@@ -1,9 +1,9 @@
 -- What a removal and a withdrawal do to what an engine keeps.
-use Rattle.std.specs.Prelude.{◌≡◌, ℕ, ◌<◌, ◌↔◌, ◌⊎◌, List, [], ◌∷◌, ◌++◌, map, length, Contains, Option, Some, None}
+use Rattle.std.specs.Prelude.{◌≡◌, ℕ, ◌<◌, ◌↔◌, ◌⊎◌, List, [], ◌∷◌, ◌++◌, map, length, Contains, Option, Some, None, slice_set}
 use Rattle.palm_base.specs.declared.terms.Pair.{Pair}
 use Rattle.palm_base.specs.declared.terms.Cid.{Cid}
 use Rattle.palm_base.specs.Tells.{Tells}
-use Rattle.palm_domain.specs.Rows.{LosesPair, initial_of, present_of}
+use Rattle.palm_domain.specs.Rows.{LosesPair, initial_of, present_of, present_values, values_without}
 use Rattle.palm_model.specs.Domains.{Domains, values_of}
 use Rattle.palm_model.specs.Log.{Loses, log_pairs}
 use Rattle.palm_model.specs.State.{without_cid}
@@ -32,6 +32,20 @@ pub record TellsLoss (d : Domains) (p : Pair) (loss : Loss) : Type 0 where
   pub below : Tells loss.below (HasBelow d p.var p.value)
   pub above : Tells loss.above (HasAbove d p.var p.value)
   pub several : Tells loss.several (HasTwo d p.var)
+
+-- the pair is taken out of the domains, and the constraints over its variable wait; nothing else changes
+pub record HasLost (f : Filtering) (p : Pair) (g : Filtering) : Type 0 where
+  pub initial : initial_of g.store ≡ initial_of f.store
+  pub present : present_of g.store ≡ slice_set (present_of f.store) p.var (values_without p.value (present_values f.store p.var))
+  pub loses : LosesPair f.store g.store p.var p.value
+  pub formed : IsFormed g.agenda
+  pub loss : Loss
+  pub told : TellsLoss (present_of g.store) p loss
+  pub connected : g.agenda.connected ≡ map (mark_others p.var loss) f.agenda.connected
+  pub pending : (c : Cid) → Contains g.agenda.pending c ↔ (Contains f.agenda.pending c ⊎ IsOver f.agenda.connected p.var c)
+  pub empty : NotesLoss f.empty g.empty (present_of g.store) p.var
+  pub log : g.log ≡ f.log
+  pub checks : g.checks ≡ f.checks
 
 -- the pair is taken out under the id and for the reasons, and the constraints over its variable wait
 pub record TakesOut (f : Filtering) (p : Pair) (by : Cid) (reasons : List Pair) (g : Filtering) : Type 0 where

@@ -2,6 +2,9 @@
 use Rattle.std.specs.Prelude.{ℤ, ℕ, ◌≤ℤ◌, List, take, drop, Contains}
 use Rattle.palm_base.specs.Ascending.{Ascends}
 use Rattle.palm_base.specs.declared.terms.Pair.{Pair}
+use Rattle.palm_domain.specs.Rows.{Row}
+use Rattle.palm_explain.specs.Explanations.{AreSpanned, LacksExactly}
+use Rattle.palm_explain.specs.declared.spans.Span.{Span}
 use Rattle.palm_filter.specs.declared.rule.Interval.{Interval}
 
 -- the values at the places of the interval
@@ -13,3 +16,7 @@ pub record IsRun (pairs : List Pair) (x : ℕ) (values : List ℤ) : Type 0 wher
   pub ascends : Ascends values
   pub each : (v : ℤ) → Contains values v → Contains pairs (record { var = x; value = v })
   pub whole : (u v w : ℤ) → Contains values u → Contains values w → u ≤ℤ v → v ≤ℤ w → Contains pairs (record { var = x; value = v }) → Contains values v
+
+-- where all of the reasons are removed, the spans stand for them
+abbrev pub IsToldBy : List Row → List Pair → List Span → Type 0
+IsToldBy rows reasons spans = (pairs : List Pair) → LacksExactly rows pairs → ((p : Pair) → Contains reasons p → Contains pairs p) → AreSpanned pairs spans reasons

@@ -16,10 +16,11 @@ ghost use Rattle.palm_engine.specs.Work.{asks_of};
 
 use crate::filtering::Filtering;
 use crate::posted::Posted;
+use crate::reasons::ReasonRoom;
 use crate::values::{examine, take_out};
 use palm_base::{NoMemory, Pair, Steps, Value, Var};
 use palm_domain::DomainStore;
-use palm_filter::{Filter, Reasons};
+use palm_filter::Filter;
 use std::sync::ledger::Ledger;
 
 /// The least present value but this one.
@@ -71,7 +72,7 @@ fn revise_one<F: Filter, L: Ledger>(
     constraint: &Posted<F>,
     var: Var,
     value: Value,
-    reasons: &mut Reasons,
+    room: &mut ReasonRoom,
     steps: &mut Steps<L>,
 ) -> Result<(), NoMemory>
     requires revising { (active : List Active) × IsRevising filtering.old active (active_of F.meaning constraint.now) }
@@ -90,7 +91,7 @@ fn revise_one<F: Filter, L: Ledger>(
     if !filtering.store.contains(Pair { var, value }) {
         return Ok(());
     }
-    examine(filtering, constraint, Pair { var, value }, reasons, steps)
+    examine(filtering, constraint, Pair { var, value }, room, steps)
 }
 
 /// Takes the value out, which is known to lack support unless it is the one that is asked for.
@@ -99,7 +100,7 @@ fn take_out_unless<F: Filter, L: Ledger>(
     constraint: &Posted<F>,
     pair: Pair,
     but: Value,
-    reasons: &mut Reasons,
+    room: &mut ReasonRoom,
     steps: &mut Steps<L>,
 ) -> Result<(), NoMemory>
     requires revising { (active : List Active) × IsRevising filtering.old active (active_of F.meaning constraint.now) }
@@ -118,9 +119,9 @@ fn take_out_unless<F: Filter, L: Ledger>(
     ensures counted { HasTicked (asked_of but (pair.value ∷ [])) filtering.old filtering.new steps.old steps.new }
 {
     if pair.value == but {
-        examine(filtering, constraint, pair, reasons, steps)
+        examine(filtering, constraint, pair, room, steps)
     } else {
-        take_out(filtering, constraint, pair, reasons)
+        take_out(filtering, constraint, pair, room)
     }
 }
 
@@ -130,7 +131,7 @@ fn take_others_out<F: Filter, L: Ledger>(
     constraint: &Posted<F>,
     var: Var,
     but: Value,
-    reasons: &mut Reasons,
+    room: &mut ReasonRoom,
     steps: &mut Steps<L>,
 ) -> Result<(), NoMemory>
     requires revising { (active : List Active) × IsRevising filtering.old active (active_of F.meaning constraint.now) }
@@ -153,7 +154,7 @@ fn take_others_out<F: Filter, L: Ledger>(
             constraint,
             Pair { var, value },
             but,
-            reasons,
+            room,
             steps,
         )?;
         next = filtering.store.next_after(var, value);
@@ -167,7 +168,7 @@ pub(crate) fn revise_alike<F: Filter, L: Ledger>(
     constraint: &Posted<F>,
     var: Var,
     but: Value,
-    reasons: &mut Reasons,
+    room: &mut ReasonRoom,
     steps: &mut Steps<L>,
 ) -> Result<(), NoMemory>
     requires revising { (active : List Active) × IsRevising filtering.old active (active_of F.meaning constraint.now) }
@@ -184,8 +185,8 @@ pub(crate) fn revise_alike<F: Filter, L: Ledger>(
     ensures counted { HasCounted (length (values_of (initial_of filtering.old.store) var)) filtering.old filtering.new steps.old steps.new }
 {
     if others_supported(filtering, constraint, var, but, steps) {
-        revise_one(filtering, constraint, var, but, reasons, steps)
+        revise_one(filtering, constraint, var, but, room, steps)
     } else {
-        take_others_out(filtering, constraint, var, but, reasons, steps)
+        take_others_out(filtering, constraint, var, but, room, steps)
     }
 }

@@ -13,10 +13,11 @@ ghost use Rattle.palm_engine.specs.Revising.{AreSupportedAt, HasCounted, IsRevis
 
 use crate::filtering::Filtering;
 use crate::posted::Posted;
+use crate::reasons::ReasonRoom;
 use crate::values::examine;
 use palm_base::{NoMemory, Pair, Steps, Value, Var};
 use palm_domain::DomainStore;
-use palm_filter::{Filter, Reasons};
+use palm_filter::Filter;
 use palm_model::number_of;
 use std::sync::ledger::Ledger;
 
@@ -134,7 +135,7 @@ pub(crate) fn revise_apart<F: Filter, L: Ledger>(
     constraint: &Posted<F>,
     var: Var,
     by: i32,
-    reasons: &mut Reasons,
+    room: &mut ReasonRoom,
     steps: &mut Steps<L>,
 ) -> Result<(), NoMemory>
     requires revising { (active : List Active) × IsRevising filtering.old active (active_of F.meaning constraint.now) }
@@ -153,7 +154,7 @@ pub(crate) fn revise_apart<F: Filter, L: Ledger>(
     let least = filtering.store.least(var);
     let mut next = next_hit(&filtering.store, constraint.scope(), var, by, least);
     while let Some(value) = next {
-        examine(filtering, constraint, Pair { var, value }, reasons, steps)?;
+        examine(filtering, constraint, Pair { var, value }, room, steps)?;
         next = hit_after(&filtering.store, constraint.scope(), var, by, value);
     }
     Ok(())

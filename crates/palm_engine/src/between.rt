@@ -16,9 +16,10 @@ ghost use Rattle.palm_engine.specs.declared.filtering.Filtering.{Filtering as Fi
 
 use crate::filtering::Filtering;
 use crate::posted::Posted;
+use crate::reasons::ReasonRoom;
 use crate::values::take_out;
 use palm_base::{NoMemory, Pair, Steps, Value, Var};
-use palm_filter::{Filter, Reasons};
+use palm_filter::Filter;
 use std::sync::ledger::Ledger;
 
 /// Asks for the present values of the variable from the least on, and takes those out that lack support, up to the first
@@ -27,7 +28,7 @@ fn rise<F: Filter, L: Ledger>(
     filtering: &mut Filtering,
     constraint: &Posted<F>,
     var: Var,
-    reasons: &mut Reasons,
+    room: &mut ReasonRoom,
     steps: &mut Steps<L>,
 ) -> Result<Option<Value>, NoMemory>
     requires revising { (active : List Active) × IsRevising filtering.old active (active_of F.meaning constraint.now) }
@@ -55,7 +56,7 @@ fn rise<F: Filter, L: Ledger>(
         ) {
             return Ok(Some(value));
         }
-        take_out(filtering, constraint, Pair { var, value }, reasons)?;
+        take_out(filtering, constraint, Pair { var, value }, room)?;
         next = filtering.store.next_after(var, value);
     }
     Ok(None)
@@ -101,7 +102,7 @@ fn take_out_from<F: Filter>(
     constraint: &Posted<F>,
     var: Var,
     from: Option<Value>,
-    reasons: &mut Reasons,
+    room: &mut ReasonRoom,
 ) -> Result<(), NoMemory>
     requires advanced { (active : List Active) × (before : FilteringTerm) × Advanced active (active_of F.meaning constraint.now) var from before filtering.old }
     requires over { Contains (scope (active_of F.meaning constraint.now).con) var }
@@ -116,7 +117,7 @@ fn take_out_from<F: Filter>(
 {
     let mut next = from;
     while let Some(value) = next {
-        take_out(filtering, constraint, Pair { var, value }, reasons)?;
+        take_out(filtering, constraint, Pair { var, value }, room)?;
         next = filtering.store.next_after(var, value);
     }
     Ok(())
@@ -127,7 +128,7 @@ pub(crate) fn revise_between<F: Filter, L: Ledger>(
     filtering: &mut Filtering,
     constraint: &Posted<F>,
     var: Var,
-    reasons: &mut Reasons,
+    room: &mut ReasonRoom,
     steps: &mut Steps<L>,
 ) -> Result<(), NoMemory>
     requires revising { (active : List Active) × IsRevising filtering.old active (active_of F.meaning constraint.now) }
@@ -143,10 +144,10 @@ pub(crate) fn revise_between<F: Filter, L: Ledger>(
     ensures supported { OnOk result (AreSupportedAt filtering.new (active_of F.meaning constraint.now) var) }
     ensures counted { HasCounted (length (values_of (initial_of filtering.old.store) var)) filtering.old filtering.new steps.old steps.new }
 {
-    let Some(first) = rise(filtering, constraint, var, reasons, steps)? else {
+    let Some(first) = rise(filtering, constraint, var, room, steps)? else {
         return Ok(());
     };
     let last = last_supported(filtering, constraint, var, first, steps);
     let above = filtering.store.next_after(var, last);
-    take_out_from(filtering, constraint, var, above, reasons)
+    take_out_from(filtering, constraint, var, above, room)
 }

@@ -22,12 +22,13 @@ use crate::conflicts::{conflict_of, flat_of};
 use crate::filtering::Filtering;
 use crate::posted::{Posted, decisions_of, place_of};
 use crate::posting::{insert, take_out, take_out_resting};
+use crate::reasons::ReasonRoom;
 use crate::settle::{Settle, outcome, run_revision, take_next, tell};
 use palm_agenda::Order;
 use palm_base::{Cid, CidList, HasCid, NoMemory, Pair, Steps, Value, Var};
 use palm_domain::DomainStore;
 use palm_explain::ExplainStore;
-use palm_filter::{Filter, Reasons};
+use palm_filter::Filter;
 use std::alloc::Global;
 use std::marker::Model;
 use std::sync::ledger::Ledger;
@@ -153,14 +154,14 @@ impl<F: Filter> Engine<F> {
     {
         // A number that is read is known to fit its type.
         let _checks = self.filtering.checks;
-        let mut reasons = Reasons::new(*self.posted.allocator());
+        let mut room = ReasonRoom::new(*self.posted.allocator());
         self.revisions = 0;
         while let Some(taken) = take_next(&mut self.filtering, order, limit, self.revisions) {
             let removed = run_revision(
                 &mut self.filtering,
                 &self.posted,
                 &taken,
-                &mut reasons,
+                &mut room,
                 steps,
             );
             self.revisions = self.revisions.saturating_add(1);

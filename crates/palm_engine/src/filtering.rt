@@ -1,17 +1,17 @@
 //! The domains, the log and the agenda of an engine, and what changes them together.
-ghost use Rattle.std.specs.Prelude.{◌≡◌, ◌↔◌, ◌⊎◌, ℕ, ◌<◌, [], map, length, Contains, None, Some, OnErr, OnOk};
+ghost use Rattle.std.specs.Prelude.{◌≡◌, ◌↔◌, ◌⊎◌, ℕ, ◌<◌, List, [], map, length, Contains, None, Some, OnErr, OnOk};
 ghost use Rattle.palm_base.specs.declared.terms.Cid.{Cid as CidTerm};
 ghost use Rattle.palm_base.specs.declared.terms.Pair.{Pair as PairTerm};
 ghost use Rattle.palm_domain.specs.Rows.{IsPresent, present_of};
 ghost use Rattle.palm_model.specs.Log.{log_pairs};
-ghost use Rattle.palm_explain.specs.Explanations.{LacksExactly, restored_vars};
+ghost use Rattle.palm_explain.specs.Explanations.{AreSpanned, LacksExactly, restored_vars};
 ghost use Rattle.palm_agenda.specs.Agenda.{IsConnected, IsFormed, IsOver};
-ghost use Rattle.palm_engine.specs.Changed.{NotesGain, NotesLoss, PutsBack, TakesOut, TellsLoss, widened_by};
+ghost use Rattle.palm_engine.specs.Changed.{HasLost, NotesGain, NotesLoss, PutsBack, TakesOut, TellsLoss, widened_by};
 
 use palm_agenda::{Agenda, Loss};
 use palm_base::{Cid, NoMemory, Pair, Var};
 use palm_domain::DomainStore;
-use palm_explain::{ExplainStore, Restored};
+use palm_explain::{ExplainStore, Restored, Span};
 use std::alloc::Global;
 
 /// The present values, why the others are gone, and which constraints wait.
@@ -100,6 +100,38 @@ impl Filtering {
         }
     }
 
+    /// Takes a present value out by this constraint and for the removals that the spans stand for. Without memory nothing changes.
+    pub(crate) fn remove_for_spans(
+        &mut self,
+        pair: Pair,
+        by: Cid,
+        spans: &[Span],
+    ) -> Result<(), NoMemory>
+        requires removed { LacksExactly self.old.store (log_pairs self.old.log.log) }
+        requires present { IsPresent self.old.store pair.var pair.value }
+        requires spanned { (reasons : List PairTerm) × AreSpanned (log_pairs self.old.log.log) spans.now reasons }
+        ensures ok { (reasons : List PairTerm) → AreSpanned (log_pairs self.old.log.log) spans.now reasons → OnOk result (TakesOut self.old pair by reasons self.new) }
+        ensures err { OnErr result (self.new ≡ self.old) }
+    {
+        let Pair { var, value } = pair;
+        self.log.enter_spans(Pair { var, value }, by, spans)?;
+        self.lose(Pair { var, value });
+        Ok(())
+    }
+
+    /// Takes a present value out of its domain, and tells the agenda.
+    #[inline(always)]
+    fn lose(&mut self, pair: Pair)
+        requires { IsPresent self.old.store pair.var pair.value }
+        ensures { HasLost self.old pair self.new }
+    {
+        let Pair { var, value } = pair;
+        self.store.take_out(Pair { var, value });
+        let loss = loss_of(&self.store, Pair { var, value });
+        self.agenda.wake(var, loss);
+        self.empty = after_loss(&self.empty, &self.store, var);
+    }
+
     /// Takes a present value out by this constraint and for these removed pairs. Without memory nothing changes.
     pub(crate) fn remove(&mut self, pair: Pair, by: Cid, reasons: &[Pair]) -> Result<(), NoMemory>
         requires removed { LacksExactly self.old.store (log_pairs self.old.log.log) }
@@ -110,10 +142,7 @@ impl Filtering {
     {
         let Pair { var, value } = pair;
         self.log.enter(Pair { var, value }, by, reasons)?;
-        self.store.take_out(Pair { var, value });
-        let loss = loss_of(&self.store, Pair { var, value });
-        self.agenda.wake(var, loss);
-        self.empty = after_loss(&self.empty, &self.store, var);
+        self.lose(Pair { var, value });
         Ok(())
     }
 

@@ -1,5 +1,5 @@
 //! The active constraints of an engine.
-ghost use Rattle.std.specs.Prelude.{◌≡◌, ℕ, ◌+◌, ◌-◌, ◌≤◌, [], true, false, min, length, Contains, Some, MatchOption, OnErr, OnOk, ◌<◌, slice_get};
+ghost use Rattle.std.specs.Prelude.{◌≡◌, ℕ, ◌+◌, ◌-◌, ◌≤◌, [], true, false, min, length, Contains, Some, IfOk, MatchOption, OnErr, OnOk, ◌<◌, slice_get};
 ghost use Rattle.palm_base.specs.declared.limits.TheConstants.{LAST_COUNT};
 ghost use Rattle.palm_domain.specs.Rows.{initial_of, present_of};
 ghost use Rattle.palm_model.specs.Constraint.{scope, IsWellFormed};
@@ -12,11 +12,14 @@ ghost use Rattle.palm_model.specs.Support.{IsSupported, LacksSupport};
 ghost use Rattle.palm_filter.specs.Heeds.{FitsHeed};
 ghost use Rattle.palm_filter.specs.Shapes.{FitsShape};
 ghost use Rattle.palm_engine.specs.Posted.{IsInForm, active_of, actives_of, is_decision, is_negation, negated};
+ghost use Rattle.palm_engine.specs.Reasons.{IsToldBy};
 ghost use Rattle.palm_engine.specs.Work.{asks_of};
 
+use crate::reasons::spans_by_rule;
 use palm_base::{Cid, CidList, HasCid, NoMemory, Pair, Steps, Var};
 use palm_domain::DomainStore;
-use palm_filter::{Filter, Heed, Reasons, Shape, ask};
+use palm_explain::Span;
+use palm_filter::{Filter, Heed, Intervals, Reasons, Shape, ask};
 use std::array;
 use std::sync::ledger::Ledger;
 
@@ -166,6 +169,30 @@ impl<F: Filter> Posted<F> {
                 *checks = counted;
                 ask(filter, store, pair, steps)
             }
+        }
+    }
+
+    /// Makes `out` the spans of the removed pairs for which the value has no support, where these are known by a rule, and answers
+    /// whether they are. Decisions and negations have no reasons.
+    pub(crate) fn tells_spans(
+        &self,
+        store: &DomainStore,
+        pair: &Pair,
+        intervals: &mut Intervals,
+        out: &mut Vec<Span>,
+    ) -> Result<bool, NoMemory>
+        requires formed { IsInForm (length store.now) (active_of F.meaning self.now) }
+        requires present { Has (present_of store.now) pair.now.var pair.now.value }
+        requires unsupported { LacksSupport (present_of store.now) (active_of F.meaning self.now).con pair.now.var pair.now.value }
+        requires filled { AreFilled (present_of store.now) (scope (active_of F.meaning self.now).con) }
+        ensures { IfOk result (λ told. told ≡ true → IsToldBy store.now (reason (initial_of store.now) (present_of store.now) (active_of F.meaning self.now).con pair.now.var pair.now.value) out.new.items) }
+    {
+        match self {
+            Posted::Decision(_) | Posted::Negation { .. } => {
+                out.clear();
+                Ok(true)
+            }
+            Posted::User { filter, .. } => spans_by_rule(filter, store, pair, intervals, out),
         }
     }
 

@@ -1,17 +1,21 @@
 //! The reasons of a removal: as spans of values where the constraint's filter tells a rule of them, and else as a list of pairs.
-ghost use Rattle.std.specs.Prelude.{◌≡◌, ◌++◌, ◌≤◌, List, length, Contains, OnOk};
+ghost use Rattle.std.specs.Prelude.{◌≡◌, ◌++◌, ◌≤◌, List, true, length, IfOk, OnOk};
 ghost use Rattle.palm_base.specs.declared.terms.Pair.{Pair as PairTerm};
-ghost use Rattle.palm_domain.specs.Rows.{Ascends, declared_values, initial_of};
+ghost use Rattle.palm_domain.specs.Rows.{Ascends, declared_values, initial_of, present_of};
 ghost use Rattle.palm_domain.specs.declared.limits.TheConstants.{MOST_VALUES};
-ghost use Rattle.palm_explain.specs.Explanations.{AreSpanned, LacksExactly};
+ghost use Rattle.palm_explain.specs.Explanations.{AreSpanned};
 ghost use Rattle.palm_filter.specs.Rules.{listed_pairs};
+ghost use Rattle.palm_model.specs.Constraint.{IsWellFormed, scope};
+ghost use Rattle.palm_model.specs.Domains.{Has};
+ghost use Rattle.palm_model.specs.Reason.{AreFilled, reason};
 ghost use Rattle.palm_model.specs.Removed.{pairs_of};
-ghost use Rattle.palm_engine.specs.Reasons.{IsRun, values_in};
+ghost use Rattle.palm_model.specs.Support.{LacksSupport};
+ghost use Rattle.palm_engine.specs.Reasons.{IsRun, IsToldBy, values_in};
 
-use palm_base::{NoMemory, Value, Var};
+use palm_base::{NoMemory, Pair, Value, Var};
 use palm_domain::DomainStore;
 use palm_explain::Span;
-use palm_filter::{Interval, Intervals, Reasons};
+use palm_filter::{Filter, Interval, Intervals, Reasons, write_out};
 use std::alloc::{AllocError, Global};
 
 /// Room for the reasons of one removal, filled again and again.
@@ -61,25 +65,51 @@ fn push_span(var: Var, values: &[Value], out: &mut Vec<Span>) -> Result<(), NoMe
             var,
             low: *low,
             high: *high,
-            count: values.len(),
+            count: values.len() as u32,
         })?;
     }
     Ok(())
 }
 
 /// Replaces what `out` has by the spans of these intervals, all of whose values are removed.
-pub(crate) fn list_spans(
+fn list_spans(
     store: &DomainStore,
     intervals: &[Interval],
     out: &mut Vec<Span>,
 ) -> Result<(), NoMemory>
-    ensures { (pairs : List PairTerm) → LacksExactly store.now pairs
-        → ((p : PairTerm) → Contains (listed_pairs (initial_of store.now) intervals.now) p → Contains pairs p)
-        → OnOk result (AreSpanned pairs out.new.items (listed_pairs (initial_of store.now) intervals.now)) }
+    ensures { OnOk result (IsToldBy store.now (listed_pairs (initial_of store.now) intervals.now) out.new.items) }
 {
     out.clear();
     for interval in intervals {
         push_span(interval.var, values_in(store, interval), out)?;
     }
     Ok(())
+}
+
+/// Makes `out` the spans of the removed pairs for which the value has no support, where the filter tells a rule of them, and answers
+/// whether it does.
+pub(crate) fn spans_by_rule<F: Filter>(
+    filter: &F,
+    store: &DomainStore,
+    pair: &Pair,
+    intervals: &mut Intervals,
+    out: &mut Vec<Span>,
+) -> Result<bool, NoMemory>
+    requires formed { IsWellFormed (length store.now) (F.meaning filter.now) }
+    requires present { Has (present_of store.now) pair.now.var pair.now.value }
+    requires unsupported { LacksSupport (present_of store.now) (F.meaning filter.now) pair.now.var pair.now.value }
+    requires filled { AreFilled (present_of store.now) (scope (F.meaning filter.now)) }
+    ensures { IfOk result (λ told. told ≡ true → IsToldBy store.now (reason (initial_of store.now) (present_of store.now) (F.meaning filter.now) pair.now.var pair.now.value) out.new.items) }
+{
+    // The store tells here what it holds of its values: a rule is known of the reasons where they ascend.
+    let _ = store.variables();
+    let Some(known) = filter.rule(store, pair, intervals)? else {
+        return Ok(false);
+    };
+    if known.last < pair.value {
+        return Ok(false);
+    }
+    write_out(store, &known.rule, &pair.value, intervals)?;
+    list_spans(store, intervals, out)?;
+    Ok(true)
 }

@@ -14,10 +14,11 @@ ghost use Rattle.palm_engine.specs.Work.{size_of};
 
 use crate::filtering::Filtering;
 use crate::posted::Posted;
+use crate::reasons::ReasonRoom;
 use crate::values::revise_values;
 use palm_agenda::{Mark, Taken};
 use palm_base::{NoMemory, Steps, Var};
-use palm_filter::{Filter, Reasons};
+use palm_filter::Filter;
 use std::sync::ledger::Ledger;
 
 /// Asks for the present values of the variable at a place of the scope that may lack support, as the place's mark tells,
@@ -28,7 +29,7 @@ fn revise_place<F: Filter, L: Ledger>(
     taken: &Taken,
     place: usize,
     var: Var,
-    reasons: &mut Reasons,
+    room: &mut ReasonRoom,
     steps: &mut Steps<L>,
 ) -> Result<(), NoMemory>
     requires revising { (active : List Active) × IsRevising filtering.old active (active_of F.meaning constraint.now) }
@@ -48,7 +49,7 @@ fn revise_place<F: Filter, L: Ledger>(
     if let Mark::Clear = mark {
         return Ok(());
     }
-    revise_values(filtering, constraint, place, var, mark, reasons, steps)?;
+    revise_values(filtering, constraint, place, var, mark, room, steps)?;
     filtering.agenda.unmark(taken, place);
     Ok(())
 }
@@ -59,7 +60,7 @@ pub(crate) fn revise<F: Filter, L: Ledger>(
     filtering: &mut Filtering,
     constraint: &Posted<F>,
     taken: &Taken,
-    reasons: &mut Reasons,
+    room: &mut ReasonRoom,
     steps: &mut Steps<L>,
 ) -> Result<(), NoMemory>
     requires revising { (active : List Active) × IsRevising filtering.old active (active_of F.meaning constraint.now) }
@@ -81,7 +82,7 @@ pub(crate) fn revise<F: Filter, L: Ledger>(
             return Ok(());
         }
         let var = constraint.scope()[place];
-        revise_place(filtering, constraint, taken, place, var, reasons, steps)?;
+        revise_place(filtering, constraint, taken, place, var, room, steps)?;
     }
     Ok(())
 }

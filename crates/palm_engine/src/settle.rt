@@ -13,10 +13,11 @@ ghost use Rattle.palm_engine.specs.Work.{named_sizes};
 
 use crate::filtering::Filtering;
 use crate::posted::Posted;
+use crate::reasons::ReasonRoom;
 use crate::revise::revise;
 use palm_agenda::{Agenda, Order, Taken};
 use palm_base::{Cid, NoMemory, Steps, Var};
-use palm_filter::{Filter, Reasons};
+use palm_filter::Filter;
 use std::sync::ledger::Ledger;
 
 /// How a settling ended.
@@ -83,7 +84,7 @@ pub(crate) fn run_revision<F: Filter, L: Ledger>(
     filtering: &mut Filtering,
     posted: &[Posted<F>],
     taken: &Taken,
-    reasons: &mut Reasons,
+    room: &mut ReasonRoom,
     steps: &mut Steps<L>,
 ) -> Result<usize, NoMemory>
     requires taken { IsTaken filtering.old (actives_of F.meaning posted.now) taken.now.cid }
@@ -95,7 +96,7 @@ pub(crate) fn run_revision<F: Filter, L: Ledger>(
 {
     let constraint = &posted[taken.at];
     let before = filtering.log.removals();
-    if revise(filtering, constraint, taken, reasons, steps).is_err() {
+    if revise(filtering, constraint, taken, room, steps).is_err() {
         filtering.agenda.wake_taken(taken);
         return Err(NoMemory);
     }

@@ -17,9 +17,10 @@ use crate::apart::{have_two, revise_apart};
 use crate::between::revise_between;
 use crate::filtering::Filtering;
 use crate::posted::Posted;
+use crate::reasons::ReasonRoom;
 use palm_agenda::Mark;
 use palm_base::{HasCid, NoMemory, Pair, Steps, Value, Var};
-use palm_filter::{Filter, Reasons, Shape};
+use palm_filter::{Filter, Shape};
 use std::sync::ledger::Ledger;
 
 /// Takes a present value out that lacks support. Without memory it stays.
@@ -28,7 +29,7 @@ pub(crate) fn take_out<F: Filter>(
     filtering: &mut Filtering,
     constraint: &Posted<F>,
     pair: Pair,
-    reasons: &mut Reasons,
+    room: &mut ReasonRoom,
 ) -> Result<(), NoMemory>
     requires revising { (active : List Active) × IsRevising filtering.old active (active_of F.meaning constraint.now) }
     requires filled { AllFilled (present_of filtering.old.store) }
@@ -44,8 +45,24 @@ pub(crate) fn take_out<F: Filter>(
     ensures checks { filtering.new.checks ≡ filtering.old.checks }
 {
     let Pair { var, value } = pair;
-    constraint.reason(&filtering.store, Pair { var, value }, reasons)?;
-    filtering.remove(Pair { var, value }, constraint.cid(), reasons.as_slice())
+    if constraint.tells_spans(
+        &filtering.store,
+        &Pair { var, value },
+        &mut room.intervals,
+        &mut room.spans,
+    )? {
+        return filtering.remove_for_spans(
+            Pair { var, value },
+            constraint.cid(),
+            room.spans.as_slice(),
+        );
+    }
+    constraint.reason(&filtering.store, Pair { var, value }, &mut room.pairs)?;
+    filtering.remove(
+        Pair { var, value },
+        constraint.cid(),
+        room.pairs.as_slice(),
+    )
 }
 
 /// Asks for a present value of the constraint's variable, and takes it out where it lacks support. Without memory
@@ -55,7 +72,7 @@ pub(crate) fn examine<F: Filter, L: Ledger>(
     filtering: &mut Filtering,
     constraint: &Posted<F>,
     pair: Pair,
-    reasons: &mut Reasons,
+    room: &mut ReasonRoom,
     steps: &mut Steps<L>,
 ) -> Result<(), NoMemory>
     requires revising { (active : List Active) × IsRevising filtering.old active (active_of F.meaning constraint.now) }
@@ -81,7 +98,7 @@ pub(crate) fn examine<F: Filter, L: Ledger>(
     ) {
         return Ok(());
     }
-    take_out(filtering, constraint, Pair { var, value }, reasons)
+    take_out(filtering, constraint, Pair { var, value }, room)
 }
 
 /// Asks for each present value of the variable, from the least on.
@@ -89,7 +106,7 @@ fn revise_each<F: Filter, L: Ledger>(
     filtering: &mut Filtering,
     constraint: &Posted<F>,
     var: Var,
-    reasons: &mut Reasons,
+    room: &mut ReasonRoom,
     steps: &mut Steps<L>,
 ) -> Result<(), NoMemory>
     requires revising { (active : List Active) × IsRevising filtering.old active (active_of F.meaning constraint.now) }
@@ -113,7 +130,7 @@ fn revise_each<F: Filter, L: Ledger>(
                 var,
                 value: placed.value,
             },
-            reasons,
+            room,
             steps,
         )?;
         next = filtering.store.next_placed(var, placed);
@@ -128,7 +145,7 @@ fn revise_within<F: Filter, L: Ledger>(
     var: Var,
     low: Value,
     high: Value,
-    reasons: &mut Reasons,
+    room: &mut ReasonRoom,
     steps: &mut Steps<L>,
 ) -> Result<(), NoMemory>
     requires revising { (active : List Active) × IsRevising filtering.old active (active_of F.meaning constraint.now) }
@@ -156,7 +173,7 @@ fn revise_within<F: Filter, L: Ledger>(
                 var,
                 value: placed.value,
             },
-            reasons,
+            room,
             steps,
         )?;
         next = filtering.store.next_placed(var, placed);
@@ -170,7 +187,7 @@ fn revise_marked<F: Filter, L: Ledger>(
     constraint: &Posted<F>,
     var: Var,
     mark: Mark,
-    reasons: &mut Reasons,
+    room: &mut ReasonRoom,
     steps: &mut Steps<L>,
 ) -> Result<(), NoMemory>
     requires revising { (active : List Active) × IsRevising filtering.old active (active_of F.meaning constraint.now) }
@@ -189,9 +206,9 @@ fn revise_marked<F: Filter, L: Ledger>(
     match mark {
         Mark::Clear => Ok(()),
         Mark::Between { low, high } => {
-            revise_within(filtering, constraint, var, low, high, reasons, steps)
+            revise_within(filtering, constraint, var, low, high, room, steps)
         }
-        Mark::Whole => revise_each(filtering, constraint, var, reasons, steps),
+        Mark::Whole => revise_each(filtering, constraint, var, room, steps),
     }
 }
 
@@ -203,7 +220,7 @@ pub(crate) fn revise_values<F: Filter, L: Ledger>(
     place: usize,
     var: Var,
     mark: Mark,
-    reasons: &mut Reasons,
+    room: &mut ReasonRoom,
     steps: &mut Steps<L>,
 ) -> Result<(), NoMemory>
     requires revising { (active : List Active) × IsRevising filtering.old active (active_of F.meaning constraint.now) }
@@ -220,12 +237,12 @@ pub(crate) fn revise_values<F: Filter, L: Ledger>(
     ensures counted { HasCounted (length (values_of (initial_of filtering.old.store) var)) filtering.old filtering.new steps.old steps.new }
 {
     match constraint.shape(place) {
-        Shape::Convex => revise_between(filtering, constraint, var, reasons, steps),
-        Shape::AlikeBut(value) => revise_alike(filtering, constraint, var, value, reasons, steps),
+        Shape::Convex => revise_between(filtering, constraint, var, room, steps),
+        Shape::AlikeBut(value) => revise_alike(filtering, constraint, var, value, room, steps),
         Shape::Guarded if have_two(&filtering.store, constraint.scope(), var) => Ok(()),
-        Shape::Apart(by) => revise_apart(filtering, constraint, var, by, reasons, steps),
+        Shape::Apart(by) => revise_apart(filtering, constraint, var, by, room, steps),
         Shape::Guarded | Shape::Any => {
-            revise_marked(filtering, constraint, var, mark, reasons, steps)
+            revise_marked(filtering, constraint, var, mark, room, steps)
         }
     }
 }

@@ -1,5 +1,6 @@
 use Rattle.std.proofs.Common.{◌++◌, sym, subst}
-use Rattle.palm_explain.specs.Explanations.{AreSpanned, pairs_with}
+use Rattle.palm_explain.specs.Entries.{pairs_with}
+use Rattle.palm_explain.specs.Explanations.{AreSpanned}
 use Rattle.palm_engine.proofs.Spanning.{run_spans, spanned_more}
 use Rattle.palm_engine.proofs.reasons.push_span.Goals as goal
 

@@ -1,11 +1,64 @@
-use Rattle.std.proofs.Common.{List, Contains, ◌∙◌, sym, ap, subst}
+use Rattle.std.proofs.Common.{List, Contains, ◌∙◌, refl, sym, ap, subst}
 use Rattle.palm_base.specs.declared.terms.Pair.{Pair}
 use Rattle.palm_engine.specs.declared.filtering.Filtering.{Filtering}
 use Rattle.palm_engine.specs.Posted.{active_of}
 use Rattle.palm_engine.specs.Revising.{IsRevising}
-use Rattle.palm_engine.proofs.Revised.{owner_in_form, owner_filled, reasons_logged}
+use Rattle.palm_engine.proofs.Revised.{owner_in_form, owner_filled, reasons_logged, reasons_told, stated}
 use Rattle.palm_engine.proofs.Progress.{taken_walked, taken_revising, on_ok, on_either}
 use Rattle.palm_engine.proofs.values.take_out.Goals as goal
+
+pub tells_spans-requires-clause-formed : goal.tells_spans-requires-clause-formed
+tells_spans-requires-clause-formed g c = let r = c.requires.revising in owner_in_form c.args.filtering.now r.0 (active_of g.F.Filter.meaning c.args.constraint.now) r.1
+
+pub tells_spans-requires-clause-filled : goal.tells_spans-requires-clause-filled
+tells_spans-requires-clause-filled g c = let r = c.requires.revising in owner_filled c.args.filtering.now r.0 (active_of g.F.Filter.meaning c.args.constraint.now) r.1 c.requires.filled
+
+pub remove_for_spans-requires-clause-spanned : goal.remove_for_spans-requires-clause-spanned
+remove_for_spans-requires-clause-spanned g c =
+    let r = c.requires.revising in
+    let f = c.args.filtering.now in
+    let owner = active_of g.F.Filter.meaning c.args.constraint.now in
+    (stated f owner c.args.pair, reasons_told f r.0 owner c.args.pair r.1 c.requires.filled c.requires.present c.requires.lacking c.as_slice.result.now c.tells_spans.new.out.items
+    c.as_slice.ensures.value (c.in_ok-tells_spans.ensures c.if-branch.true))
+
+pub returns-then-branch-clause-walked : goal.returns-then-branch-clause-walked
+returns-then-branch-clause-walked g c = λ active r.
+    let f = c.args.filtering.now in
+    let owner = active_of g.F.Filter.meaning c.args.constraint.now in
+    let told = reasons_told f active owner c.args.pair r c.requires.filled c.requires.present c.requires.lacking c.as_slice.result.now c.tells_spans.new.out.items
+        c.as_slice.ensures.value (c.in_ok-tells_spans.ensures c.if-branch.true) in
+    on_ok c.remove_for_spans.result (λ takes. taken_walked active owner c.args.pair f c.remove_for_spans.new.self c.cid.result (stated f owner c.args.pair) r
+    c.requires.filled c.requires.present c.requires.lacking c.requires.over c.cid.ensures refl takes) (c.remove_for_spans.ensures.ok (stated f owner c.args.pair) told)
+
+pub returns-then-branch-clause-revising : goal.returns-then-branch-clause-revising
+returns-then-branch-clause-revising g c = λ active r.
+    let f = c.args.filtering.now in
+    let owner = active_of g.F.Filter.meaning c.args.constraint.now in
+    let told = reasons_told f active owner c.args.pair r c.requires.filled c.requires.present c.requires.lacking c.as_slice.result.now c.tells_spans.new.out.items
+        c.as_slice.ensures.value (c.in_ok-tells_spans.ensures c.if-branch.true) in
+    on_either c.remove_for_spans.result
+    (λ takes. taken_revising active owner c.args.pair f c.remove_for_spans.new.self c.cid.result (stated f owner c.args.pair) r
+    c.requires.filled c.requires.present c.requires.lacking c.requires.over c.cid.ensures refl takes)
+    (λ same. subst (λ (h : Filtering). IsRevising h active owner) (sym same) r)
+    (c.remove_for_spans.ensures.ok (stated f owner c.args.pair) told) c.remove_for_spans.ensures.err
+
+pub returns-then-branch-clause-gone : goal.returns-then-branch-clause-gone
+returns-then-branch-clause-gone g c =
+    let r = c.requires.revising in
+    let f = c.args.filtering.now in
+    let owner = active_of g.F.Filter.meaning c.args.constraint.now in
+    let told = reasons_told f r.0 owner c.args.pair r.1 c.requires.filled c.requires.present c.requires.lacking c.as_slice.result.now c.tells_spans.new.out.items
+        c.as_slice.ensures.value (c.in_ok-tells_spans.ensures c.if-branch.true) in
+    on_ok c.remove_for_spans.result (λ takes. takes.loses) (c.remove_for_spans.ensures.ok (stated f owner c.args.pair) told)
+
+pub returns-then-branch-clause-checks : goal.returns-then-branch-clause-checks
+returns-then-branch-clause-checks g c =
+    let r = c.requires.revising in
+    let f = c.args.filtering.now in
+    let owner = active_of g.F.Filter.meaning c.args.constraint.now in
+    let told = reasons_told f r.0 owner c.args.pair r.1 c.requires.filled c.requires.present c.requires.lacking c.as_slice.result.now c.tells_spans.new.out.items
+        c.as_slice.ensures.value (c.in_ok-tells_spans.ensures c.if-branch.true) in
+    on_either c.remove_for_spans.result (λ takes. takes.checks) (λ same. ap (λ (h : Filtering). h.checks) same) (c.remove_for_spans.ensures.ok (stated f owner c.args.pair) told) c.remove_for_spans.ensures.err
 
 pub reason-requires-clause-formed : goal.reason-requires-clause-formed
 reason-requires-clause-formed g c = let r = c.requires.revising in owner_in_form c.args.filtering.now r.0 (active_of g.F.Filter.meaning c.args.constraint.now) r.1
@@ -19,23 +72,23 @@ remove-requires-clause-removed g c = let r = c.requires.revising in let kept = r
 pub remove-requires-clause-earlier : goal.remove-requires-clause-earlier
 remove-requires-clause-earlier g c =
     let r = c.requires.revising in
-    let e = c.as_slice.ensures.value ∙ c.in_ok-reason.ensures.ok in
+    let e = c.as_slice-2.ensures.value ∙ c.in_ok-reason.ensures.ok in
     λ p m. reasons_logged c.args.filtering.now r.0 (active_of g.F.Filter.meaning c.args.constraint.now) c.args.pair r.1 c.requires.filled c.requires.present
     c.requires.lacking p (subst (λ (l : List Pair). Contains l p) e m)
 
 pub returns-clause-walked : goal.returns-clause-walked
 returns-clause-walked g c = λ active r.
-    let e = c.as_slice.ensures.value ∙ c.in_ok-reason.ensures.ok in
-    on_ok c.remove.result (λ takes. taken_walked active (active_of g.F.Filter.meaning c.args.constraint.now) c.args.pair c.args.filtering.now c.remove.new.self c.cid.result c.as_slice.result.now r
-    c.requires.filled c.requires.present c.requires.lacking c.requires.over c.cid.ensures e takes) c.remove.ensures.ok
+    let e = c.as_slice-2.ensures.value ∙ c.in_ok-reason.ensures.ok in
+    on_ok c.remove.result (λ takes. taken_walked active (active_of g.F.Filter.meaning c.args.constraint.now) c.args.pair c.args.filtering.now c.remove.new.self c.cid-2.result c.as_slice-2.result.now r
+    c.requires.filled c.requires.present c.requires.lacking c.requires.over c.cid-2.ensures e takes) c.remove.ensures.ok
 
 pub returns-clause-revising : goal.returns-clause-revising
 returns-clause-revising g c = λ active r.
-    let e = c.as_slice.ensures.value ∙ c.in_ok-reason.ensures.ok in
+    let e = c.as_slice-2.ensures.value ∙ c.in_ok-reason.ensures.ok in
     let owner = active_of g.F.Filter.meaning c.args.constraint.now in
     on_either c.remove.result
-    (λ takes. taken_revising active owner c.args.pair c.args.filtering.now c.remove.new.self c.cid.result c.as_slice.result.now r
-    c.requires.filled c.requires.present c.requires.lacking c.requires.over c.cid.ensures e takes)
+    (λ takes. taken_revising active owner c.args.pair c.args.filtering.now c.remove.new.self c.cid-2.result c.as_slice-2.result.now r
+    c.requires.filled c.requires.present c.requires.lacking c.requires.over c.cid-2.ensures e takes)
     (λ same. subst (λ (f : Filtering). IsRevising f active owner) (sym same) r)
     c.remove.ensures.ok c.remove.ensures.err
 

@@ -14,6 +14,4 @@ enter-requires-clause-fresh c m =
 
 pub returns-clause-ok : goal.returns-clause-ok
 returns-clause-ok c =
-    took_out c.args.self.now c.take_out.new.self c.enter.new.self c.wake.new.self c.after_loss-self.result c.args.pair c.args.by c.args.reasons.now c.loss_of-loss.result
-    c.requires.removed c.requires.present c.take_out.ensures.initial c.take_out.ensures.present c.take_out.ensures.loses c.in_ok-enter.ensures.ok
-    c.wake.ensures.formed c.wake.ensures.connected c.wake.ensures.pending c.loss_of-loss.ensures c.after_loss-self.ensures
+    took_out c.args.self.now c.enter.new.self c.lose.new.self c.args.pair c.args.by c.args.reasons.now c.requires.removed c.requires.present c.in_ok-enter.ensures.ok c.lose.ensures
