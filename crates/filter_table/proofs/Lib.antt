@@ -3,5 +3,4 @@ pub mod Entries
 pub mod Columned
 pub mod Besides
 pub mod Blocking
-pub mod Partners
 pub mod Supporting

@@ -117,19 +117,6 @@ impl IndexedTable {
         self.columns[column].places(&pair.value)
     }
 
-    /// The other variable of a table of two columns.
-    pub(crate) fn partner_of(&self, var: &Var) -> Option<Var>
-        requires indexed { IsIndexed self.now }
-        requires over { Contains self.now.vars var.now }
-        ensures { IfSome result (λ partner. others self.now.vars var.now ≡ partner ∷ []) }
-    {
-        if self.vars.len() != 2 {
-            return None;
-        }
-        let own = column_of_two(self.vars.as_slice(), var);
-        Some(self.vars.as_slice()[1 - own])
-    }
-
     /// Whether some row has the value of the pair in its column, and only present entries.
     pub(crate) fn is_given(&self, store: &DomainStore, pair: Pair) -> bool
         requires indexed { IsIndexed self.now }

@@ -6,7 +6,7 @@ ghost use Rattle.palm_model.specs.Constraint.{IsWellFormed};
 use crate::indexed::IndexedTable;
 use palm_base::{NoMemory, Pair, VarList};
 use palm_domain::DomainStore;
-use palm_filter::{Filter, Intervals, Known, Reasons, Rule, list_pairs, whole_or_none};
+use palm_filter::{Filter, Reasons, whole_or_none};
 use palm_model::{Con, copy_of};
 use std::alloc::Global;
 use std::marker::Model;
@@ -55,31 +55,6 @@ impl Filter for TableFilter {
 
     fn supported(&self, store: &DomainStore, pair: Pair) -> bool {
         self.table.is_given(store, pair)
-    }
-
-    fn rule(
-        &self,
-        store: &DomainStore,
-        pair: &Pair,
-        out: &mut Intervals,
-    ) -> Result<Known, NoMemory> {
-        if let Some(partner) = self.table.partner_of(&pair.var) {
-            return Ok(Known::always(Rule::Beside(partner)));
-        }
-        let mut reasons = Reasons::new(*out.allocator());
-        self.reason(
-            store,
-            Pair {
-                var: pair.var,
-                value: pair.value,
-            },
-            &mut reasons,
-        )?;
-        list_pairs(store, reasons.as_slice(), out)?;
-        Ok(Known {
-            rule: Rule::Listed,
-            last: pair.value,
-        })
     }
 
     fn reason(&self, store: &DomainStore, pair: Pair, out: &mut Reasons) -> Result<(), NoMemory> {
