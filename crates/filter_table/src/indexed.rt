@@ -23,7 +23,7 @@ pub(crate) struct IndexedTable {
     pub(crate) vars: VarList,
     rows: RowList,
     pub(crate) columns: Vec<ValueIndex>,
-    besides: Vec<Beside>,
+    pub(crate) besides: Vec<Beside>,
 }
 
 /// The index of a column.
@@ -80,7 +80,7 @@ fn column_of(vars: &[Var], var: &Var) -> Option<usize>
 
 /// The place of the variable, which is one of the two.
 #[inline(always)]
-fn column_of_two(vars: &[Var], var: &Var) -> usize
+pub(crate) fn column_of_two(vars: &[Var], var: &Var) -> usize
     requires two { length vars.now ≡ 2 }
     requires over { Contains vars.now var.now }
     ensures { slice_get vars.now result ≡ Some var.now }

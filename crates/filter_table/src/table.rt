@@ -6,7 +6,7 @@ ghost use Rattle.palm_model.specs.Constraint.{IsWellFormed};
 use crate::indexed::IndexedTable;
 use palm_base::{NoMemory, Pair, VarList};
 use palm_domain::DomainStore;
-use palm_filter::{Filter, Reasons, whole_or_none};
+use palm_filter::{Filter, Intervals, Known, Reasons, whole_or_none};
 use palm_model::{Con, copy_of};
 use std::alloc::Global;
 use std::marker::Model;
@@ -55,6 +55,15 @@ impl Filter for TableFilter {
 
     fn supported(&self, store: &DomainStore, pair: Pair) -> bool {
         self.table.is_given(store, pair)
+    }
+
+    fn rule(
+        &self,
+        store: &DomainStore,
+        pair: &Pair,
+        out: &mut Intervals,
+    ) -> Result<Option<Known>, NoMemory> {
+        self.table.rule(store, pair, out)
     }
 
     fn reason(&self, store: &DomainStore, pair: Pair, out: &mut Reasons) -> Result<(), NoMemory> {

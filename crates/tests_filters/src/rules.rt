@@ -289,7 +289,12 @@ const CASES: &[Case] = &[
     (Sample::Count(Op::Ge), (0, 1), None, &[(1, 7)]),
     (Sample::CountVariable(Op::Eq), (2, 2), None, &[(1, 7)]),
     (Sample::Count(Op::Lt), (0, 7), None, &[]),
-    (Sample::Table, (0, 7), None, &[(1, 1), (1, 3)]),
+    (
+        Sample::Table,
+        (0, 7),
+        Some((Wanted::Listed(2), 7)),
+        &[(1, 1), (1, 3)],
+    ),
     (Sample::WideTable, (0, 7), None, &[(2, 3)]),
     (Sample::Element, (2, 2), None, &[(0, 3)]),
     (Sample::Element, (0, 1), None, &[(2, 3)]),
