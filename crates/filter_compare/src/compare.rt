@@ -192,10 +192,10 @@ impl Filter for CompareFilter {
         _store: &DomainStore,
         pair: &Pair,
         _out: &mut Intervals,
-    ) -> Result<Known, NoMemory> {
+    ) -> Result<Option<Known>, NoMemory> {
         match &self.comparison {
-            Comparison::Variables(comparison) => Ok(Known::always(comparison.rule(pair))),
-            Comparison::Constant(_) => Ok(Known::always(Rule::Empty)),
+            Comparison::Variables(comparison) => Ok(Some(Known::always(comparison.rule(pair)))),
+            Comparison::Constant(_) => Ok(Some(Known::always(Rule::Empty))),
         }
     }
 

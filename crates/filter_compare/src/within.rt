@@ -83,10 +83,10 @@ impl Filter for WithinFilter {
         _store: &DomainStore,
         _pair: &Pair,
         _out: &mut Intervals,
-    ) -> Result<Known, NoMemory> {
+    ) -> Result<Option<Known>, NoMemory> {
         // What the filter means is told by its fields alone.
         let _ = &self.membership;
-        Ok(Known::always(Rule::Empty))
+        Ok(Some(Known::always(Rule::Empty)))
     }
 
     fn reason(&self, store: &DomainStore, _pair: Pair, out: &mut Reasons) -> Result<(), NoMemory> {

@@ -108,11 +108,11 @@ impl Filter for DifferFilter {
         store: &DomainStore,
         pair: &Pair,
         _out: &mut Intervals,
-    ) -> Result<Known, NoMemory> {
-        Ok(Known {
+    ) -> Result<Option<Known>, NoMemory> {
+        Ok(Some(Known {
             rule: rule_of(store, self.vars.as_slice(), pair),
             last: pair.value,
-        })
+        }))
     }
 
     fn reason(&self, store: &DomainStore, pair: Pair, out: &mut Reasons) -> Result<(), NoMemory> {

@@ -1,14 +1,14 @@
 -- The values whose products are beyond those of all present values are the first or the last ones of an ascending list.
-use Rattle.std.proofs.Common.{◌≡◌, ℕ, zero, suc, ◌+◌, ◌*◌, ◌<◌, ◌≤◌, List, [], ◌∷◌, length, take, drop, get_or, filter, Contains, ℤ, pos, negsuc, ◌*ℤ◌, ◌<ℤ◌, ◌≤ℤ◌, Bool, true, false, not, cond, int_cmp, is_lt, is_le, refl, sym, ap, ◌∙◌, int_lt, arith}
-use Rattle.std.specs.List.Sorted.{IsPartitionedBy, IsPartitionPoint}
+use Rattle.std.proofs.Common.{◌≡◌, ℕ, ◌+◌, ◌*◌, ◌≤◌, List, [], ◌∷◌, drop, get_or, filter, Contains, ℤ, pos, negsuc, ◌+ℤ◌, ◌*ℤ◌, ◌<ℤ◌, ◌≤ℤ◌, Bool, true, false, not, cond, refl, sym, ap, ◌∙◌, int_lt, arith}
 use Rattle.std.proofs.Math.Nat.{mul-le-mul_left}
 use Rattle.std.proofs.lemmas.Bool.{both_ways}
 use Rattle.std.proofs.lemmas.Int.{ints, by_lt_z}
 use borrow.Author.Differences.{up, down}
 use Rattle.palm_base.proofs.cited.Members.{member_here, member_there, filter_agree_members}
-use Rattle.palm_domain.specs.Rows.{Ascends, IsLeastOf, IsGreatestOf}
-use Rattle.palm_domain.proofs.cited.Ascending.{get_or-rises}
-use Rattle.palm_domain.proofs.cited.Comparisons.{lt_from_is_lt, ge_from_is_lt, le_from_is_le, gt_from_is_le}
+use Rattle.palm_base.proofs.cited.Sorted.{filter_rest}
+use Rattle.palm_base.specs.Order.{IsPartedAt}
+use Rattle.palm_domain.specs.Rows.{IsLeastOf, IsGreatestOf}
+use Rattle.palm_domain.proofs.cited.Comparisons.{ge_from_int_lt}
 use Rattle.palm_model.specs.Domains.{Domains, values_of}
 use Rattle.palm_model.specs.Linear.{IsFactor, least_of, greatest_of, products}
 use Rattle.palm_model.specs.Removed.{is_listed}
@@ -21,33 +21,6 @@ use Rattle.filter_linear.specs.Linear.{IsOfLow, values_beyond}
 use Rattle.filter_linear.specs.declared.reasons.Side.{Side}
 use Rattle.filter_linear.specs.declared.reasons.Side.TheVariants.{Below, Above}
 use Rattle.filter_linear.proofs.Walks.{least_risen, least_fallen, greatest_risen, greatest_fallen}
-
--- ---- lists of which one end passes a test
-
-module _ {X : Type 0} (p : X → Bool) where
-  none_pass : (xs : List X) → ((i : ℕ) (d : X) → i < length xs → p (get_or xs i d) ≡ false) → filter p xs ≡ []
-  none_pass [] fail = refl
-  none_pass (x ∷ xs) fail = ap (λ b. cond b (x ∷ filter p xs) (filter p xs)) (fail 0 x (omega arith)) ∙ none_pass xs (λ i d l. fail (suc i) d (omega arith))
-
-  all_pass : (xs : List X) → ((i : ℕ) (d : X) → i < length xs → p (get_or xs i d) ≡ true) → filter p xs ≡ xs
-  all_pass [] pass = refl
-  all_pass (x ∷ xs) pass = ap (λ b. cond b (x ∷ filter p xs) (filter p xs)) (pass 0 x (omega arith)) ∙ ap (λ ys. x ∷ ys) (all_pass xs (λ i d l. pass (suc i) d (omega arith)))
-
-  first_pass : (xs : List X) (k : ℕ) → ((i : ℕ) (d : X) → i < k → i < length xs → p (get_or xs i d) ≡ true) → ((i : ℕ) (d : X) → k ≤ i → i < length xs → p (get_or xs i d) ≡ false) → filter p xs ≡ take k xs
-  first_pass [] zero pass fail = refl
-  first_pass [] (suc k) pass fail = refl
-  first_pass (x ∷ xs) zero pass fail = none_pass (x ∷ xs) (λ i d l. fail i d (omega arith) l)
-  first_pass (x ∷ xs) (suc k) pass fail =
-      ap (λ b. cond b (x ∷ filter p xs) (filter p xs)) (pass 0 x (omega arith) (omega arith))
-      ∙ ap (λ ys. x ∷ ys) (first_pass xs k (λ i d l m. pass (suc i) d (omega arith) (omega arith)) (λ i d l m. fail (suc i) d (omega arith) (omega arith)))
-
-  last_pass : (xs : List X) (k : ℕ) → ((i : ℕ) (d : X) → i < k → i < length xs → p (get_or xs i d) ≡ false) → ((i : ℕ) (d : X) → k ≤ i → i < length xs → p (get_or xs i d) ≡ true) → filter p xs ≡ drop k xs
-  last_pass [] zero fail pass = refl
-  last_pass [] (suc k) fail pass = refl
-  last_pass (x ∷ xs) zero fail pass = all_pass (x ∷ xs) (λ i d l. pass i d (omega arith) l)
-  last_pass (x ∷ xs) (suc k) fail pass =
-      ap (λ b. cond b (x ∷ filter p xs) (filter p xs)) (fail 0 x (omega arith) (omega arith))
-      ∙ last_pass xs k (λ i d l m. fail (suc i) d (omega arith) (omega arith)) (λ i d l m. pass (suc i) d (omega arith) (omega arith))
 
 -- ---- tests
 
@@ -65,26 +38,12 @@ is_below v w lt = test_from_stands Lt v w lt
 not_below : (v w : ℤ) → w ≤ℤ v → int_lt v w ≡ false
 not_below v w le = no (int_lt v w) (λ e. absurd (omega (arith, ints, le, stands_from_test Lt v w e)))
 
--- ---- the ends of an ascending list
-
-module _ (vs : List ℤ) (rise : Ascends vs) (bound : ℤ) where
-  pub up_to_parted : IsPartitionedBy (λ v. is_le (int_cmp v bound)) vs
-  up_to_parted i j d le lt h =
-      let rises = get_or-rises vs rise i j d d le lt in
-      let low = le_from_is_le (get_or vs j d) bound (sym h) in
-      yes (is_le (int_cmp (get_or vs i d) bound)) (λ e. let gt = gt_from_is_le (get_or vs i d) bound e in omega (arith, ints, rises, low, gt))
-
-  pub lower_first : (end : ℕ) → IsPartitionPoint (λ v. is_lt (int_cmp v bound) ≡ true) (λ v. is_lt (int_cmp v bound) ≡ false) vs end → take end vs ≡ filter (λ v. int_lt v bound) vs
-  lower_first end point =
-      sym (first_pass (λ v. int_lt v bound) vs end
-      (λ i d l m. is_below (get_or vs i d) bound (lt_from_is_lt (get_or vs i d) bound (sym (point.0 i d (omega arith) l))))
-      (λ i d l m. not_below (get_or vs i d) bound (ge_from_is_lt (get_or vs i d) bound (sym (point.1 i d l m)))))
-
-  pub higher_last : (start : ℕ) → IsPartitionPoint (λ v. is_le (int_cmp v bound) ≡ true) (λ v. is_le (int_cmp v bound) ≡ false) vs start → drop start vs ≡ filter (λ v. int_lt bound v) vs
-  higher_last start point =
-      sym (last_pass (λ v. int_lt bound v) vs start
-      (λ i d l m. not_below bound (get_or vs i d) (le_from_is_le (get_or vs i d) bound (sym (point.0 i d (omega arith) l))))
-      (λ i d l m. is_below bound (get_or vs i d) (gt_from_is_le (get_or vs i d) bound (sym (point.1 i d l m)))))
+-- of ascending values those above a bound are the last ones
+pub higher_last : (vs : List ℤ) (bound : ℤ) (start : ℕ) → IsPartedAt (λ v. int_lt v (bound +ℤ pos 1)) vs start → drop start vs ≡ filter (λ v. int_lt bound v) vs
+higher_last vs bound start parted =
+    sym (filter_rest (λ v. int_lt bound v) vs start
+    (λ k d ge lt. not_below bound (get_or vs k d) (omega (arith, ints, stands_from_test Lt (get_or vs k d) (bound +ℤ pos 1) (parted.before k d ge lt))))
+    (λ k d ge lt. is_below bound (get_or vs k d) (omega (arith, ints, ge_from_int_lt (get_or vs k d) (bound +ℤ pos 1) (parted.after k d ge lt)))))
 
 -- every value passes where nothing is asked
 pub all_of : (vs : List ℤ) → filter (λ v. true) vs ≡ vs

@@ -1,15 +1,16 @@
 -- Reasons of sums, as they are written: one term after another.
-use Rattle.std.proofs.Common.{◌≡◌, ℕ, ◌+◌, ◌<◌, ◌++◌, List, [], ◌∷◌, length, take, get_or, filter, flat_map, append_assoc, append-nil, All, ℤ, Bool, true, false, cond, Contains, sym, ap, ◌∙◌, subst}
+use Rattle.std.proofs.Common.{◌≡◌, ℕ, ◌+◌, ◌<◌, ◌++◌, List, [], ◌∷◌, length, take, get_or, filter, flat_map, append_assoc, append-nil, All, ℤ, ◌≤ℤ◌, Bool, Option, Some, None, Result, Ok, Err, true, false, cond, sym, ap, ◌∙◌}
+use Rattle.std.specs.Prelude.{IfOk, IfSome}
 use Rattle.std.proofs.lemmas.Grind.{flat_map-append}
 use Rattle.std.proofs.lemmas.List.Elements.{All-contains, filter_more}
 use Rattle.palm_base.proofs.cited.Members.{member_map, all_members}
 use Rattle.palm_base.specs.declared.terms.Pair.{Pair}
-use Rattle.palm_domain.specs.Rows.{Row, IsDeclared, initial_of, present_of}
+use Rattle.palm_filter.specs.Rules.{FitsRule, written}
+use Rattle.palm_filter.specs.declared.rule.Interval.{Interval}
+use Rattle.palm_filter.specs.declared.rule.Known.{Known}
 use Rattle.palm_model.specs.Domains.{Domains, values_of}
 use Rattle.palm_model.specs.Linear.{term_vars, linear_reason}
 use Rattle.palm_model.specs.Reason.{reason, AreFilled}
-use Rattle.palm_model.specs.Removed.{removed_pairs, removed_values}
-use Rattle.palm_model.proofs.cited.Reasons.{all_pairs_member, removed_member}
 use Rattle.palm_model.specs.declared.constraint.Con.{Con}
 use Rattle.palm_model.specs.declared.constraint.Con.TheVariants.{Linear}
 use Rattle.palm_model.specs.declared.constraint.Op.{Op}
@@ -25,12 +26,13 @@ filled_beside d terms x filled =
 pub gives_reason : (initial present : Domains) (terms : List Term) (op : Op) (bound : ℤ) (x : ℕ) (v : ℤ) (m : Con) (out : List Pair) → Linear terms op bound ≡ m → out ≡ linear_reason initial present terms op bound x v → out ≡ reason initial present m x v
 gives_reason initial present terms op bound x v m out is e = e ∙ ap (λ k. reason initial present k x v) is
 
--- removed pairs were declared
-pub removed_declared : (rows : List Row) (xs : List ℕ) (removed listed : List Pair) → listed ≡ removed → removed ≡ removed_pairs (initial_of rows) (present_of rows) xs → All (λ p. IsDeclared rows p.var p.value) listed
-removed_declared rows xs removed listed e f =
-    all_members (λ (p : Pair). IsDeclared rows p.var p.value) listed
-    (λ p m. (removed_member (initial_of rows) (present_of rows) p.var p.value
-    (all_pairs_member (removed_values (initial_of rows) (present_of rows)) xs p (subst (λ (ps : List Pair). Contains ps p) (e ∙ f) m)).1).0)
+-- what is told of a sum holds of the filter's meaning
+pub told_rule : {E : Type 0} (initial present : Domains) (terms : List Term) (op : Op) (bound : ℤ) (x : ℕ) (value : ℤ) (m : Con) (intervals : List Interval) (result : Result (Option Known) E) → Linear terms op bound ≡ m
+    → IfOk result (λ told. IfSome told (λ known. (c : Con) (v : ℤ) → value ≤ℤ v → v ≤ℤ known.last → written initial c known.rule intervals x v ≡ linear_reason initial present terms op bound x v))
+    → IfOk result (λ told. IfSome told (λ known. FitsRule initial present m x value known intervals))
+told_rule initial present terms op bound x value m intervals (Ok (Some known)) is told = λ v low high wants. gives_reason initial present terms op bound x v m (written initial m known.rule intervals x v) is (told m v low high)
+told_rule initial present terms op bound x value m intervals (Ok None) is told = tt
+told_rule initial present terms op bound x value m intervals (Err e) is told = tt
 
 -- ---- what a walk appends
 

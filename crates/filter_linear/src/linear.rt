@@ -94,7 +94,7 @@ impl Filter for LinearFilter {
         store: &DomainStore,
         pair: &Pair,
         out: &mut Intervals,
-    ) -> Result<Known, NoMemory> {
+    ) -> Result<Option<Known>, NoMemory> {
         list_rule(&self.rule, store, pair, out)
     }
 

@@ -1,10 +1,10 @@
 //! Reasons of linear constraints: removed values beyond the present ones, or all removed values.
-ghost use Rattle.std.specs.Prelude.{◌≡◌, ◌++◌, ◌<◌, ◌≤◌, ◌≤ℤ◌, ℤ, drop, filter, int_lt, length, take, IfOk, OnOk};
+ghost use Rattle.std.specs.Prelude.{◌≡◌, ◌++◌, ◌<◌, ◌≤◌, ◌≤ℤ◌, ℤ, drop, filter, int_lt, length, take, IfOk, IfSome, OnOk};
 ghost use Rattle.palm_filter.specs.Rules.{interval_pairs, listed_pairs, written};
 ghost use Rattle.palm_model.specs.declared.constraint.Con.{Con};
 ghost use Rattle.filter_linear.specs.Linear.{IsOfLow, beyond_reason, linear_of, values_beyond};
 ghost use Rattle.palm_base.specs.Tells.{Tells};
-ghost use Rattle.palm_domain.specs.Rows.{Ascends, initial_of, present_of};
+ghost use Rattle.palm_domain.specs.Rows.{IsGreatestOf, IsLeastOf, declared_values, initial_of, present_of, present_values};
 ghost use Rattle.palm_model.specs.Linear.{IsFactor, term_vars, linear_reason};
 ghost use Rattle.palm_model.specs.Constraint.{IsWellFormed};
 ghost use Rattle.palm_model.specs.Domains.{values_of};
@@ -12,12 +12,10 @@ ghost use Rattle.palm_model.specs.Reason.{AreFilled};
 ghost use Rattle.palm_model.specs.Removed.{others, pairs_of, removed_pairs};
 
 use crate::rule::LinearRule;
-use palm_base::{NoMemory, Pair, Value};
+use palm_base::{NoMemory, Pair, Value, Var};
 use palm_domain::DomainStore;
-use palm_filter::{
-    Interval, Intervals, Known, Reasons, Rule, list_pairs, push_passing, push_removed,
-};
-use palm_model::{Op, Term};
+use palm_filter::{Interval, Intervals, Known, Reasons, Rule, push_passing, push_removed};
+use palm_model::{Op, Term, number_of};
 
 /// On which side of the present values others are missing.
 #[derive(Clone, Copy, Debug, PartialEq, Eq)]
@@ -28,40 +26,24 @@ pub enum Side {
     Above,
 }
 
-/// Where the values below the bound end, among ascending ones.
-fn end_of_lower(values: &[Value], bound: &Value) -> usize
-    requires { Ascends values.now }
-    ensures within { result ≤ length values.now }
-    ensures lower { take result values.now ≡ filter (λ v. int_lt v bound.now) values.now }
+/// How many declared values of the variable are below its least present one.
+fn count_below(store: &DomainStore, var: Var) -> usize
+    requires declared { var < length store.now }
+    requires filled { 0 < length (values_of (present_of store.now) var) }
+    ensures within { result ≤ length (declared_values store.now var) }
+    ensures lower { (low : ℤ) × IsLeastOf (present_values store.now var) low × (take result (declared_values store.now var) ≡ filter (λ v. int_lt v low) (declared_values store.now var)) }
 {
-    values.partition_point(|value| *value < *bound)
+    store.declared_below(var, number_of(&store.least(var)))
 }
 
-/// Where the values above the bound start, among ascending ones.
-fn start_of_higher(values: &[Value], bound: &Value) -> usize
-    requires { Ascends values.now }
-    ensures within { result ≤ length values.now }
-    ensures higher { drop result values.now ≡ filter (λ v. int_lt bound.now v) values.now }
+/// How many declared values of the variable are up to its greatest present one.
+fn count_up_to(store: &DomainStore, var: Var) -> usize
+    requires declared { var < length store.now }
+    requires filled { 0 < length (values_of (present_of store.now) var) }
+    ensures within { result ≤ length (declared_values store.now var) }
+    ensures higher { (high : ℤ) × IsGreatestOf (present_values store.now var) high × (drop result (declared_values store.now var) ≡ filter (λ v. int_lt high v) (declared_values store.now var)) }
 {
-    values.partition_point(|value| *value <= *bound)
-}
-
-/// The values below the bound: the first ones of an ascending list.
-fn lower<'a>(values: &'a [Value], bound: &Value) -> &'a [Value]
-    requires { Ascends values.now }
-    ensures { result.now ≡ filter (λ v. int_lt v bound.now) values.now }
-{
-    let end = end_of_lower(values, bound);
-    &values[..end]
-}
-
-/// The values above the bound: the last ones of an ascending list.
-fn higher<'a>(values: &'a [Value], bound: &Value) -> &'a [Value]
-    requires { Ascends values.now }
-    ensures { result.now ≡ filter (λ v. int_lt bound.now v) values.now }
-{
-    let start = start_of_higher(values, bound);
-    &values[start..]
+    store.declared_below(var, number_of(&store.greatest(var)) + 1)
 }
 
 impl Side {
@@ -71,21 +53,23 @@ impl Side {
         requires factor { IsFactor term.now }
         requires declared { term.now.var < length store.now }
         requires filled { 0 < length (values_of (present_of store.now) term.now.var) }
-        ensures { interval_pairs (initial_of store.now) result ≡ pairs_of term.now.var (values_beyond self (initial_of store.now) (present_of store.now) term.now) }
+        ensures var { result.var ≡ term.now.var }
+        ensures ordered { result.first ≤ result.end }
+        ensures within { result.end ≤ length (declared_values store.now term.now.var) }
+        ensures values { drop result.first (take result.end (declared_values store.now term.now.var)) ≡ values_beyond self (initial_of store.now) (present_of store.now) term.now }
     {
-        let values = store.initial_values(term.var);
-        if self.is_of_low_values(term) {
-            Interval {
-                var: term.var,
-                first: 0,
-                end: end_of_lower(values, &store.least(term.var)),
-            }
+        let (first, end) = if self.is_of_low_values(term) {
+            (0, count_below(store, term.var))
         } else {
-            Interval {
-                var: term.var,
-                first: start_of_higher(values, &store.greatest(term.var)),
-                end: values.len(),
-            }
+            (
+                count_up_to(store, term.var),
+                store.initial_count(term.var) as usize,
+            )
+        };
+        Interval {
+            var: term.var,
+            first,
+            end,
         }
     }
 
@@ -127,12 +111,8 @@ impl Side {
         requires filled { 0 < length (values_of (present_of store.now) term.now.var) }
         ensures { result.now ≡ values_beyond self (initial_of store.now) (present_of store.now) term.now }
     {
-        let values = store.initial_values(term.var);
-        if self.is_of_low_values(term) {
-            lower(values, &store.least(term.var))
-        } else {
-            higher(values, &store.greatest(term.var))
-        }
+        let interval = self.interval_beyond(term, store);
+        &store.initial_values(term.var)[interval.first..interval.end]
     }
 
     /// Appends every removed pair of the term's variable whose product is on this side of those of all present values.
@@ -210,55 +190,37 @@ pub(crate) fn push_reason(
     }
 }
 
-/// Replaces what `out` has by the intervals of the removed values of every variable of the sum but that of the pair.
-fn list_others(
-    rule: &LinearRule,
-    store: &DomainStore,
-    pair: &Pair,
-    out: &mut Intervals,
-) -> Result<(), NoMemory>
-    requires formed { IsWellFormed (length store.now) (linear_of rule.now) }
-    ensures { OnOk result (listed_pairs (initial_of store.now) out.new.items ≡ removed_pairs (initial_of store.now) (present_of store.now) (others (term_vars rule.now.terms) pair.now.var)) }
-{
-    let mut removed = Reasons::new(*out.allocator());
-    push_others(rule, store, pair, &mut removed)?;
-    list_pairs(store, removed.as_slice(), out)
-}
-
 /// The rule of the reasons: a list of intervals, which replaces what `out` has. It is the same for every value, but of a sum
-/// that is to be equal to the bound, where it is told of the value alone.
+/// that is to be equal to the bound, where it is told of the value alone. None is told of a sum that is to differ from it.
 pub(crate) fn list_rule(
     rule: &LinearRule,
     store: &DomainStore,
     pair: &Pair,
     out: &mut Intervals,
-) -> Result<Known, NoMemory>
+) -> Result<Option<Known>, NoMemory>
     requires formed { IsWellFormed (length store.now) (linear_of rule.now) }
     requires filled { AreFilled (present_of store.now) (term_vars rule.now.terms) }
-    ensures { IfOk result (λ known. (c : Con) (v : ℤ) → pair.now.value ≤ℤ v → v ≤ℤ known.last
-        → written (initial_of store.now) c known.rule out.new.items pair.now.var v ≡ linear_reason (initial_of store.now) (present_of store.now) rule.now.terms rule.now.op rule.now.bound pair.now.var v) }
+    ensures { IfOk result (λ told. IfSome told (λ known. (c : Con) (v : ℤ) → pair.now.value ≤ℤ v → v ≤ℤ known.last
+        → written (initial_of store.now) c known.rule out.new.items pair.now.var v ≡ linear_reason (initial_of store.now) (present_of store.now) rule.now.terms rule.now.op rule.now.bound pair.now.var v)) }
 {
     out.clear();
     match rule.op {
         Op::Eq => {
             rule.missing_side(store, pair)
                 .push_intervals(rule, store, pair, out)?;
-            Ok(Known {
+            Ok(Some(Known {
                 rule: Rule::Listed,
                 last: pair.value,
-            })
+            }))
         }
-        Op::Ne => {
-            list_others(rule, store, pair, out)?;
-            Ok(Known::always(Rule::Listed))
-        }
+        Op::Ne => Ok(None),
         Op::Lt | Op::Le => {
             Side::Below.push_intervals(rule, store, pair, out)?;
-            Ok(Known::always(Rule::Listed))
+            Ok(Some(Known::always(Rule::Listed)))
         }
         Op::Gt | Op::Ge => {
             Side::Above.push_intervals(rule, store, pair, out)?;
-            Ok(Known::always(Rule::Listed))
+            Ok(Some(Known::always(Rule::Listed)))
         }
     }
 }

@@ -1,6 +1,6 @@
 -- Which losses of the target of a count take support from values of the counted variables: those at the end of its values that the
 -- relation looks at.
-use Rattle.std.proofs.Common.{◌≡◌, ℕ, ◌<◌, ◌≤◌, List, [], ◌++◌, length, Contains, slice_get, Some, ℤ, pos, ◌<ℤ◌, ◌⊎◌, inl, inr, refl, sym, ap, ◌∙◌, subst, arith}
+use Rattle.std.proofs.Common.{◌≡◌, ℕ, ◌≤◌, List, [], ◌++◌, length, Contains, slice_get, Some, ℤ, pos, ◌<ℤ◌, ◌⊎◌, inl, inr, refl, sym, ap, ◌∙◌, subst, arith}
 use Rattle.std.proofs.lemmas.Int.{ints}
 use Rattle.palm_base.proofs.cited.Members.{member_here, nat_known, int_known}
 use Rattle.palm_filter.specs.Heeds.{Loses, IsHeeded, FitsHeed}

@@ -3,6 +3,5 @@ pub mod CountSupport
 pub mod Enough
 pub mod Heeds
 pub mod Reached
-pub mod Rules
 pub mod Shapes
 pub mod Written

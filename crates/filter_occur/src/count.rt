@@ -6,9 +6,7 @@ ghost use Rattle.palm_model.specs.Constraint.{IsWellFormed};
 use crate::rule::CountRule;
 use palm_base::{NoMemory, Pair, VarList};
 use palm_domain::DomainStore;
-use palm_filter::{
-    Filter, Heed, Intervals, Known, Reasons, Rule, Shape, list_pairs, whole_or_none,
-};
+use palm_filter::{Filter, Heed, Reasons, Shape, whole_or_none};
 use palm_model::{Con, Target, copy_of};
 use std::alloc::Global;
 use std::marker::Model;
@@ -101,28 +99,6 @@ impl Filter for OccurFilter {
         // A store's values ascend, as `variables` tells.
         prove!(store.variables() > 0);
         self.rule.is_reachable(store, &pair)
-    }
-
-    fn rule(
-        &self,
-        store: &DomainStore,
-        pair: &Pair,
-        out: &mut Intervals,
-    ) -> Result<Known, NoMemory> {
-        let mut reasons = Reasons::new(*out.allocator());
-        self.reason(
-            store,
-            Pair {
-                var: pair.var,
-                value: pair.value,
-            },
-            &mut reasons,
-        )?;
-        list_pairs(store, reasons.as_slice(), out)?;
-        Ok(Known {
-            rule: Rule::Listed,
-            last: self.rule.last_alike(&pair.value),
-        })
     }
 
     fn reason(&self, store: &DomainStore, pair: Pair, out: &mut Reasons) -> Result<(), NoMemory> {

@@ -1,12 +1,12 @@
 //! The number of some variables that have a value, and the target that it is compared with.
-ghost use Rattle.std.specs.Prelude.{◌≡◌, ◌++◌, ◌<◌, ◌≤◌, ◌≤ℤ◌, ℕ, ℤ, [], ◌∷◌, length, flat_map, if◌then◌else◌, All, Contains, IfNone, IfSome, MatchOption, OnOk};
+ghost use Rattle.std.specs.Prelude.{◌≡◌, ◌++◌, ◌<◌, ◌≤◌, ℕ, [], ◌∷◌, length, flat_map, if◌then◌else◌, All, Contains, IfNone, IfSome, MatchOption, OnOk};
 ghost use Rattle.filter_occur.specs.Count.{AreCounts, AreCountsTo, CanReach, IsChance, IsCountReached, IsEnough, count_of, target_values, values_where};
 ghost use Rattle.palm_base.specs.Tells.{Tells};
 ghost use Rattle.palm_domain.specs.Rows.{initial_of, present_of};
 ghost use Rattle.palm_filter.specs.Heeds.{IsHeeded};
 ghost use Rattle.palm_filter.specs.Shapes.{IsShaped};
 ghost use Rattle.palm_model.specs.Constraint.{Distinct};
-ghost use Rattle.palm_model.specs.Count.{target_scope, count_reason, counted_pairs, high_pairs, low_pairs, needs_high, needs_low, own_count, target_pairs};
+ghost use Rattle.palm_model.specs.Count.{target_scope, count_reason, counted_pairs, high_pairs, low_pairs, needs_high, needs_low, target_pairs};
 ghost use Rattle.palm_model.specs.Domains.{values_of};
 ghost use Rattle.palm_model.specs.Reason.{AreFilled};
 ghost use Rattle.palm_model.specs.Removed.{others};
@@ -209,20 +209,6 @@ impl CountRule {
 }
 
 impl CountRule {
-    /// The greatest value, from this one on, up to which each is the counted one or none is: their reasons are the same.
-    pub(crate) fn last_alike(&self, value: &Value) -> Value
-        ensures { (v : ℤ) → value.now ≤ℤ v → v ≤ℤ result → own_count self.now.value v ≡ own_count self.now.value value.now }
-    {
-        let (number, counted) = (value.0, self.value.0);
-        if number < counted {
-            Value(counted - 1)
-        } else if number == counted {
-            Value(counted)
-        } else {
-            Value(i32::MAX)
-        }
-    }
-
     /// Appends the reason of the pair: what keeps the number of the other variables too low or too high, and the
     /// declared values of the target that would fit.
     pub(crate) fn push_reason(

@@ -1,13 +1,13 @@
 -- The rows of a table of two columns that support a value or block it, by the bits of what stands beside it.
-use Rattle.std.proofs.Common.{Bool, ◌≡◌, ℕ, zero, suc, ◌-◌, ◌^◌, ◌<◌, ℤ, pos, ◌+ℤ◌, true, false, not, List, [], length, get_or, slice_get, Some, nat_eq, ne_eqb, bit_and, w64, inl, inr, refl, sym, ap, ◌∙◌, subst, arith}
+use Rattle.std.proofs.Common.{Bool, ◌≡◌, ℕ, zero, suc, ◌-◌, ◌^◌, ◌<◌, ℤ, pos, ◌+ℤ◌, true, false, not, ◌&&◌, List, [], length, get_or, slice_get, Some, nat_eq, ne_eqb, bit_and, w64, inl, inr, refl, sym, ap, ◌∙◌, subst, arith}
 use Rattle.std.specs.Int.{bit_at, trailing_zeros}
 use Rattle.std.specs.List.{list_any}
 use Rattle.std.proofs.lemmas.Int.{ints}
-use Rattle.std.proofs.lemmas.Bool.{cases_Bool, cases_eq, both_ways, and_parts}
+use Rattle.std.proofs.lemmas.Bool.{cases_Bool, cases_eq, both_ways, and_from, and_parts}
 use Rattle.std.proofs.lemmas.List.{get_or_default, length-map}
 use Rattle.std.proofs.lemmas.Nat.Bits.{bit_at_and, bit_at-zero, bit_at-lt, bit_at-trailing_zeros}
 use Rattle.std.proofs.lemmas.Option.{slice_get_within, get_or_from_slice_get, slice_get-get_or}
-use Rattle.palm_base.proofs.cited.Telling.{tells_true, tells_false}
+use Rattle.palm_base.proofs.cited.Telling.{tells_true, tells_false, tells_both}
 use Rattle.palm_base.specs.Tells.{Tells}
 use Rattle.palm_base.specs.declared.terms.Pair.{Pair}
 use Rattle.palm_model.specs.Domains.{Domains, Has, is_among}
@@ -18,6 +18,7 @@ use Rattle.filter_table.specs.Table.{IsIndexed, column_values, entry_at, is_supp
 use Rattle.filter_table.specs.declared.beside.Beside.{Beside}
 use Rattle.filter_table.specs.declared.indexed.IndexedTable.{IndexedTable}
 use Rattle.filter_table.proofs.Columned.{blocked_entry, blocked_first, blocked_parts, column_at, column_every, column_stands, column_within, has_own, own_entry, own_has, some_row, two_gives, two_fails}
+use Rattle.filter_table.proofs.Partners.{stands_beside}
 use Rattle.filter_table.proofs.Entries.{is_first, there_column, two_missing, two_there}
 
 -- ---- two words that share a one
@@ -190,3 +191,38 @@ module _ (t : IndexedTable) (indexed : IsIndexed t) (two : length t.vars ≡ 2) 
         (column_stands t.vars t.rows indexed.distinct indexed.long (1 - own) y k w at_beside other_at) (tells_true (Has initial y w) declared tells t_is)))
     | inr f_is ↦ f_is ∙ no_row_of test t.rows (λ k lt g. tells_false (Has initial y w) declared tells f_is (blocked_bit k lt g).1)
   ]
+
+-- ---- what stands beside it
+
+module _ (t : IndexedTable) (indexed : IsIndexed t) (own x y : ℕ) (v : ℤ) (at : slice_get t.vars own ≡ Some x) (at_other : slice_get t.vars (1 - own) ≡ Some y) (b : Beside) (lookup : slice_get t.besides.items own ≡ Some b) where
+  own_bits : AreBeside (column_values t.rows own) (column_values t.rows (1 - own)) (length (column_values t.rows own)) b
+  own_bits = bits_of t indexed own x y at at_other b lookup
+
+  abbrev has_both : ℤ → List ℤ → Bool
+  has_both w row = is_among (row_pairs t.vars row) x v && is_among (row_pairs t.vars row) y w
+
+  row_noted : (w : ℤ) (k : ℕ) → k < length t.rows → has_both w (row_at t.rows k) ≡ true → HasBit b v w
+  row_noted w k lt h =
+      let ps = row_pairs t.vars (row_at t.rows k) in
+      let parts = and_parts (is_among ps x v) (is_among ps y w) h in
+      own_bits.all k v w (column_length t own k lt) (column_every t.vars t.rows indexed.distinct indexed.long own x k v at lt parts.0)
+      (column_every t.vars t.rows indexed.distinct indexed.long (1 - own) y k w at_other lt parts.1)
+
+  -- a bit tells whether a row has both values
+  pub stands_told : (w : ℤ) → Tells (stands_beside t.vars t.rows x v y w) (HasBit b v w)
+  stands_told w =
+      tells_both (HasBit b v w) (stands_beside t.vars t.rows x v y w)
+      (λ some.
+      let r = any_member (has_both w) t.rows some in
+      row_noted w r.1.0 r.1.1 (ap (has_both w) (get_or_default t.rows r.1.0 [] r.0 r.1.1 ∙ r.1.2) ∙ r.2))
+      (λ none h.
+      let r = own_bits.only h.word h.bit h.own.within h.other.within h.noted in
+      let k = r.place in
+      let own_at : slice_get (column_values t.rows own) k ≡ Some v = r.own ∙ ap Some (sym h.own.is) in
+      let other_at : slice_get (column_values t.rows (1 - own)) k ≡ Some w = r.other ∙ ap Some (sym h.other.is) in
+      let lt = column_within t.vars t.rows indexed.distinct indexed.long own k v own_at in
+      let ps = row_pairs t.vars (row_at t.rows k) in
+      both_ways (stands_beside t.vars t.rows x v y w) none
+      (sym (some_row (has_both w) t.rows k lt
+      (and_from (is_among ps x v) (is_among ps y w) (column_stands t.vars t.rows indexed.distinct indexed.long own x k v at own_at)
+      (column_stands t.vars t.rows indexed.distinct indexed.long (1 - own) y k w at_other other_at)))))

@@ -1,28 +1,21 @@
--- The reason of a table of two columns as a rule: the declared values that stand beside the value.
+-- The reason of a table of two columns: the declared values that stand beside the value.
 use Rattle.std.proofs.Common.{◌≡◌, ℕ, zero, suc, ℤ, ◌-◌, Bool, true, cond, not, ◌&&◌, Some, List, [], ◌∷◌, length, map, flat_map, filter, slice_get, All, Contains, ◌⊎◌, inl, inr, refl, sym, ap, ◌∙◌, subst, arith, append-nil, eqb, eq-eqb, ne_eqb}
 use Rattle.std.specs.List.{list_any}
 use Rattle.std.proofs.lemmas.Bool.{and_from, and_parts}
 use Rattle.std.proofs.lemmas.List.Elements.{All-contains}
 use Rattle.palm_base.specs.declared.terms.Pair.{Pair}
 use Rattle.palm_base.proofs.cited.Members.{member_here, member_same, member_single, member_take, filter_member, member_filter, nat_known}
-use Rattle.palm_filter.specs.Rules.{stands_beside, written}
-use Rattle.palm_filter.specs.declared.rule.Interval.{Interval}
-use Rattle.palm_filter.specs.declared.rule.Rule.{Rule}
-use Rattle.palm_filter.specs.declared.rule.Rule.TheVariants.{Beside}
 use Rattle.palm_model.specs.Constraint.{Distinct}
 use Rattle.palm_model.specs.Domains.{Domains, Has, is_among, values_of}
 use Rattle.palm_model.specs.Reason.{WantsReason, reason}
 use Rattle.palm_model.specs.Removed.{is_listed, others, pairs_of, removed_values}
 use Rattle.palm_model.specs.Table.{row_pairs, are_there, first_missing, is_blocked_at, blocking_values}
-use Rattle.palm_model.specs.declared.constraint.Con.{Con}
 use Rattle.palm_model.specs.declared.constraint.Con.TheVariants.{Table}
 use Rattle.palm_model.specs.declared.part.Part.TheVariants.{Table as TablePart}
 use Rattle.palm_model.proofs.cited.Ascending.{ascends_filter, ascends_at, ascending_same}
 use Rattle.palm_model.proofs.cited.Reasons.{others_member, member_others, member_removed}
 use Rattle.palm_model.proofs.cited.Supports.{any_member, member_any, member_among, among_member, part_unsupported}
 use Rattle.palm_reason.proofs.cited.TableRows.{missing_cases, among_gives, there_gives, gives_there, entry_gives}
-use Rattle.filter_table.specs.Table.{IsIndexed, table_of}
-use Rattle.filter_table.specs.declared.indexed.IndexedTable.{IndexedTable}
 use Rattle.filter_table.proofs.Columned.{entry_of, row_is}
 
 -- ---- the other one of two variables
@@ -54,9 +47,13 @@ other_of_two (a ∷ b ∷ []) x y (suc (suc k)) two apart at beside = cc
 
 -- ---- the values that stand beside a value that lacks support
 
+-- whether a row has v in the column of x and w in that of y
+abbrev pub stands_beside : List ℕ → List (List ℤ) → ℕ → ℤ → ℕ → ℤ → Bool
+stands_beside vars rows x v y w = list_any (λ row. is_among (row_pairs vars row) x v && is_among (row_pairs vars row) y w) rows
+
 module _ (initial present : Domains) (vars : List ℕ) (rows : List (List ℤ)) (x y : ℕ) (v : ℤ) (wants : WantsReason initial present (Table vars rows) x v) (long : All (λ row. length row ≡ length vars) rows) (one : others vars x ≡ y ∷ []) where
   abbrev beside : ℤ → Bool
-  beside w = stands_beside (Table vars rows) x v y w
+  beside w = stands_beside vars rows x v y w
 
   abbrev blocks : ℤ → Bool
   blocks w = list_any (is_blocked_at initial present vars x v y w) rows
@@ -142,16 +139,8 @@ module _ (initial present : Domains) (vars : List ℕ) (rows : List (List ℤ)) 
       (ascends_filter beside (values_of initial y) up) (ascends_filter blocks (removed_values initial present y) (ascends_filter (λ z. not (is_listed (values_of present y) z)) (values_of initial y) up))
       partner_blocks blocks_partner
 
-  partners_reason : (intervals : List Interval) → written initial (Table vars rows) (Beside y) intervals x v ≡ reason initial present (Table vars rows) x v
-  partners_reason intervals =
+  pub partners_reason : pairs_of y (filter beside (values_of initial y)) ≡ reason initial present (Table vars rows) x v
+  partners_reason =
       ap (pairs_of y) partners_block
       ∙ sym (append-nil (pairs_of y (blocking_values initial present vars rows x v y)))
       ∙ ap (flat_map (λ z. pairs_of z (blocking_values initial present vars rows x v z))) (sym one)
-
--- ---- what the filter answers
-
-pub beside_reason : (t : IndexedTable) → IsIndexed t → (m : Con) → table_of t ≡ m → (initial present : Domains) (x y : ℕ) (v : ℤ) (rule : Rule) (intervals : List Interval) → rule ≡ Beside y → others t.vars x ≡ y ∷ [] → WantsReason initial present m x v → written initial m rule intervals x v ≡ reason initial present m x v
-beside_reason t indexed m is initial present x y v rule intervals e one wants =
-    ap (λ r. written initial m r intervals x v) e
-    ∙ subst (λ k. WantsReason initial present k x v → written initial k (Beside y) intervals x v ≡ reason initial present k x v) is
-    (λ w. partners_reason initial present t.vars t.rows x y v w indexed.long one intervals) wants

@@ -23,7 +23,7 @@ pub(crate) struct IndexedTable {
     pub(crate) vars: VarList,
     rows: RowList,
     pub(crate) columns: Vec<ValueIndex>,
-    besides: Vec<Beside>,
+    pub(crate) besides: Vec<Beside>,
 }
 
 /// The index of a column.
@@ -80,7 +80,7 @@ fn column_of(vars: &[Var], var: &Var) -> Option<usize>
 
 /// The place of the variable, which is one of the two.
 #[inline(always)]
-fn column_of_two(vars: &[Var], var: &Var) -> usize
+pub(crate) fn column_of_two(vars: &[Var], var: &Var) -> usize
     requires two { length vars.now ≡ 2 }
     requires over { Contains vars.now var.now }
     ensures { slice_get vars.now result ≡ Some var.now }
@@ -115,19 +115,6 @@ impl IndexedTable {
         ensures every { (k : ℕ) → k < length self.now.rows → is_among (row_pairs self.now.vars (row_at self.now.rows k)) pair.now.var pair.now.value ≡ true → Contains result.now k }
     {
         self.columns[column].places(&pair.value)
-    }
-
-    /// The other variable of a table of two columns.
-    pub(crate) fn partner_of(&self, var: &Var) -> Option<Var>
-        requires indexed { IsIndexed self.now }
-        requires over { Contains self.now.vars var.now }
-        ensures { IfSome result (λ partner. others self.now.vars var.now ≡ partner ∷ []) }
-    {
-        if self.vars.len() != 2 {
-            return None;
-        }
-        let own = column_of_two(self.vars.as_slice(), var);
-        Some(self.vars.as_slice()[1 - own])
     }
 
     /// Whether some row has the value of the pair in its column, and only present entries.

@@ -3,6 +3,7 @@
 
 mod beside;
 mod indexed;
+mod listing;
 mod row;
 mod table;
 

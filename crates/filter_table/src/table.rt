@@ -6,7 +6,7 @@ ghost use Rattle.palm_model.specs.Constraint.{IsWellFormed};
 use crate::indexed::IndexedTable;
 use palm_base::{NoMemory, Pair, VarList};
 use palm_domain::DomainStore;
-use palm_filter::{Filter, Intervals, Known, Reasons, Rule, list_pairs, whole_or_none};
+use palm_filter::{Filter, Intervals, Known, Reasons, whole_or_none};
 use palm_model::{Con, copy_of};
 use std::alloc::Global;
 use std::marker::Model;
@@ -62,24 +62,8 @@ impl Filter for TableFilter {
         store: &DomainStore,
         pair: &Pair,
         out: &mut Intervals,
-    ) -> Result<Known, NoMemory> {
-        if let Some(partner) = self.table.partner_of(&pair.var) {
-            return Ok(Known::always(Rule::Beside(partner)));
-        }
-        let mut reasons = Reasons::new(*out.allocator());
-        self.reason(
-            store,
-            Pair {
-                var: pair.var,
-                value: pair.value,
-            },
-            &mut reasons,
-        )?;
-        list_pairs(store, reasons.as_slice(), out)?;
-        Ok(Known {
-            rule: Rule::Listed,
-            last: pair.value,
-        })
+    ) -> Result<Option<Known>, NoMemory> {
+        self.table.rule(store, pair, out)
     }
 
     fn reason(&self, store: &DomainStore, pair: Pair, out: &mut Reasons) -> Result<(), NoMemory> {

@@ -1,5 +1,5 @@
 -- Ascending values that a number parts, as intervals of places.
-use Rattle.std.proofs.Common.{◌≡◌, ℕ, zero, suc, ℤ, pos, ◌+ℤ◌, ◌<ℤ◌, ◌≤ℤ◌, ◌<◌, ◌≤◌, ◌++◌, Bool, true, false, not, int_lt, int_eq, List, [], ◌∷◌, length, take, drop, get_or, filter, Result, Ok, Err, refl, sym, ap, ◌∙◌, inl, inr, arith, append_assoc}
+use Rattle.std.proofs.Common.{◌≡◌, ℕ, zero, suc, ℤ, pos, ◌+ℤ◌, ◌<ℤ◌, ◌≤ℤ◌, ◌<◌, ◌≤◌, ◌++◌, Bool, true, false, not, int_lt, int_eq, List, [], ◌∷◌, length, take, drop, get_or, filter, Result, refl, sym, ap, ◌∙◌, inl, inr, arith, append_assoc}
 use Rattle.std.specs.Prelude.{OnOk}
 use Rattle.std.specs.List.{AllWithin}
 use Rattle.std.proofs.lemmas.Bool.{cases_lt}
@@ -13,6 +13,7 @@ use Rattle.palm_model.specs.Domains.{Domains, values_of}
 use Rattle.palm_model.specs.Removed.{pairs_of}
 use Rattle.palm_filter.specs.Rules.{declared_passing, interval_pairs, listed_pairs}
 use Rattle.palm_filter.specs.declared.rule.Interval.{Interval}
+use Rattle.palm_filter.proofs.cited.Written.{on_ok}
 
 -- ---- filters by two places
 
@@ -112,11 +113,6 @@ module _ (vs : List ℤ) (n : ℤ) (first end : ℕ) (low : IsPartedAt (λ w. in
 
 abbrev pair_of : ℕ → ℤ → Pair
 pair_of y w = record { var = y; value = w }
-
--- what holds where the call had memory, and what follows of it
-pub on_ok : {T E : Type 0} (P Q : Type 0) (result : Result T E) → (P → Q) → OnOk result P → OnOk result Q
-on_ok P Q (Ok x) f p = f p
-on_ok P Q (Err y) f p = tt
 
 -- what was listed behind nothing is the whole list
 pub listed_alone : {T E : Type 0} (d : Domains) (before now : List Interval) (pairs wanted : List Pair) (result : Result T E) → before ≡ [] → pairs ≡ wanted

@@ -45,7 +45,12 @@ fn count_up_to(store: &DomainStore, shift: &Shift, value: &Value) -> usize
 }
 
 /// Appends the declared values of the variable from a first place on up to before an end, if there are any.
-fn push_interval(var: &Var, first: usize, end: usize, out: &mut Intervals) -> Result<(), NoMemory>
+pub fn push_interval(
+    var: &Var,
+    first: usize,
+    end: usize,
+    out: &mut Intervals,
+) -> Result<(), NoMemory>
     ensures { (d : Domains) → OnOk result (listed_pairs d out.new.items ≡ listed_pairs d out.old.items ++ interval_pairs d (record { var = var.now; first = first; end = end })) }
 {
     if first < end {

@@ -113,7 +113,7 @@ impl Filter for Kind {
         store: &DomainStore,
         pair: &Pair,
         out: &mut Intervals,
-    ) -> Result<Known, NoMemory> {
+    ) -> Result<Option<Known>, NoMemory> {
         match self {
             Kind::Compare(filter) => filter.rule(store, pair, out),
             Kind::Linear(filter) => filter.rule(store, pair, out),

@@ -8,9 +8,9 @@ use crate::samples::{Sample, con_of};
 use crate::testing::{Question, assert_answers, assert_reason, pair, rule_of, take_out_all};
 use palm_base::{NoMemory, Pair, Value, Var};
 use palm_domain::DomainStore;
-use palm_filter::{Filter, Interval, Known, Reasons, Rule, Shift};
+use palm_filter::{Filter, Interval, Intervals, Known, Reasons, Rule, Shift, write_out};
 use palm_kind::Kind;
-use palm_model::{Con, Op, number_of};
+use palm_model::{Con, Op};
 use std::alloc::Global;
 use std::process::Abort;
 use std::test::Fail;
@@ -24,16 +24,11 @@ enum Wanted {
     Below(u32, i32),
     At(u32, i32),
     Other(u32, i32),
-    Beside(u32),
     Listed(usize),
 }
 
 fn shift(var: u32, by: i32) -> Shift {
     Shift { var: Var(var), by }
-}
-
-fn beside(var: u32) -> Rule {
-    Rule::Beside(Var(var))
 }
 
 /// The rule that is wanted.
@@ -44,7 +39,6 @@ fn wanted_rule(wanted: &Wanted) -> Rule {
         Wanted::Below(var, by) => Rule::Below(shift(var, by)),
         Wanted::At(var, by) => Rule::At(shift(var, by)),
         Wanted::Other(var, by) => Rule::Other(shift(var, by)),
-        Wanted::Beside(var) => beside(var),
         Wanted::Listed(_) => Rule::Listed,
     }
 }
@@ -57,70 +51,47 @@ fn wanted_intervals(wanted: &Wanted) -> usize {
     }
 }
 
-/// The rows of the table of two columns.
-const ROWS: &[(i32, i32)] = &[(1, 2), (7, 1), (7, 3)];
-
-/// How far the pair's value lies above the shifted one.
-fn above(value: &Value, shift: &Shift, at: &Pair) -> i64 {
-    number_of(&at.value) - (number_of(value) + i64::from(shift.by))
-}
-
-/// Whether the pair, whose value stands at the place among the declared ones, is a reason of the value by the rule.
-fn is_by_rule(rule: &Rule, list: &[Interval], value: &Value, at: &Pair, place: usize) -> bool {
-    match rule {
-        Rule::Empty => false,
-        Rule::Above(shift) => shift.var == at.var && above(value, shift, at) >= 0,
-        Rule::Below(shift) => shift.var == at.var && above(value, shift, at) <= 0,
-        Rule::At(shift) => shift.var == at.var && above(value, shift, at) == 0,
-        Rule::Other(shift) => shift.var == at.var && above(value, shift, at) != 0,
-        Rule::Beside(var) => *var == at.var && ROWS.contains(&(value.0, at.value.0)),
-        Rule::Listed => list
-            .iter()
-            .any(|i| i.var == at.var && i.first <= place && place < i.end),
-    }
-}
-
-/// Appends the reasons of the value by the rule among the declared pairs of the variable.
-fn push_written(
+/// Appends the declared values of the interval, with their variable.
+fn push_interval(
     store: &DomainStore,
-    var: Var,
-    known: &Known,
-    list: &[Interval],
-    value: &Value,
+    interval: &Interval,
     out: &mut Reasons,
-) -> Result<(), NoMemory>
-    requires { var < length store.now }
-{
+) -> Result<(), NoMemory> {
+    let var = interval.var;
+    if var.0 >= store.variables() {
+        return Ok(());
+    }
     let values = store.initial_values(var);
-    for place in 0..values.len() {
-        let at = Pair {
+    for place in interval.first..interval.end.min(values.len()) {
+        out.push(Pair {
             var,
             value: values[place],
-        };
-        if is_by_rule(&known.rule, list, value, &at, place) {
-            out.push(at)?;
-        }
+        })?;
     }
     Ok(())
 }
 
-/// The reasons of the value by the rule, of one variable after another.
+/// The reasons of the value by the rule, as it is written out.
 fn written(
     alloc: Global,
     store: &DomainStore,
     known: &Known,
-    list: &[Interval],
     value: &Value,
+    list: &mut Intervals,
 ) -> Result<Reasons, NoMemory> {
+    write_out(store, &known.rule, value, list)?;
     let mut out = Reasons::new(alloc);
-    for var in 0..store.variables() {
-        push_written(store, Var(var), known, list, value, &mut out)?;
+    for interval in list.as_slice() {
+        push_interval(store, interval, &mut out)?;
     }
     Ok(out)
 }
 
-/// What a sample's constraint is asked: a variable and its value, the rule, the last value that it is known of, and the reasons.
-type Case<'a> = (Sample, (u32, i32), Wanted, i32, &'a [(u32, i32)]);
+/// A rule that is to be told, and the last value that it is known of.
+type Told = (Wanted, i32);
+
+/// What a sample's constraint is asked: a variable and its value, the rule where one is told, and the reasons.
+type Case<'a> = (Sample, (u32, i32), Option<Told>, &'a [(u32, i32)]);
 
 /// The pairs of variables and values by their numbers.
 fn pairs_of(alloc: Global, numbers: &[(u32, i32)]) -> Result<Reasons, NoMemory> {
@@ -131,30 +102,49 @@ fn pairs_of(alloc: Global, numbers: &[(u32, i32)]) -> Result<Reasons, NoMemory> 
     Ok(pairs)
 }
 
-/// Asserts that the filter tells the reasons by the rule that is wanted, and they are these.
+/// Asserts that the rule is the one that is wanted, and the reasons are these where it is written out.
+fn assert_known(
+    rt: &impl Abort,
+    alloc: Global,
+    store: &DomainStore,
+    known: &Known,
+    list: &mut Intervals,
+    told: &Told,
+    case: &Case,
+) -> Result<(), NoMemory> {
+    let (_, (_, value), _, reasons) = case;
+    let (wanted, last) = told;
+    assert_eq!(rt; known.rule, wanted_rule(wanted), "{case:?}");
+    assert_eq!(rt; known.last.0, *last, "the last value, {case:?}");
+    assert_eq!(rt; list.len(), wanted_intervals(wanted), "intervals, {case:?}");
+    let out = written(alloc, store, known, &Value(*value), list)?;
+    let reasons = pairs_of(alloc, reasons)?;
+    assert_eq!(rt; out.as_slice(), reasons.as_slice(), "written out, {case:?}");
+    Ok(())
+}
+
+/// Asserts that the filter tells the reasons by the rule that is wanted, or tells none.
 fn assert_rule(
     rt: &impl Abort,
     alloc: Global,
     kind: &Kind,
     store: &DomainStore,
     case: &Case,
-    reasons: &[Pair],
 ) -> Result<(), NoMemory>
     requires { IsWellFormed (length store.now) (con_of kind.now) }
 {
-    let (_, (var, value), wanted, last, _) = case;
+    let (_, (var, value), wanted, _) = case;
     let asked = pair(*var, *value);
     let over = kind.scope().as_slice().contains(&asked.var);
     assert!(rt; over, "no variable of the constraint, {case:?}");
-    let Some((known, list)) = rule_of(alloc, kind, store, &asked)? else {
-        panic!(rt; "no rule, {case:?}")
-    };
-    let out = written(alloc, store, &known, list.as_slice(), &asked.value)?;
-    assert_eq!(rt; known.rule, wanted_rule(wanted), "{case:?}");
-    assert_eq!(rt; list.len(), wanted_intervals(wanted), "intervals, {case:?}");
-    assert_eq!(rt; known.last.0, *last, "the last value, {case:?}");
-    assert_eq!(rt; out.as_slice(), reasons, "written out, {case:?}");
-    Ok(())
+    match (rule_of(alloc, kind, store, &asked)?, wanted) {
+        (Some((known, mut list)), Some(told)) => {
+            assert_known(rt, alloc, store, &known, &mut list, told, case)
+        }
+        (None, None) => Ok(()),
+        (Some(_), None) => panic!(rt; "a rule, {case:?}"),
+        (None, Some(_)) => panic!(rt; "no rule, {case:?}"),
+    }
 }
 
 /// The same of a constraint, beside the reason that its filter writes.
@@ -168,7 +158,7 @@ fn assert_told(
     requires formed { IsWellFormed 3 con.now }
     requires variables { length store.now ≡ 3 }
 {
-    let (_, (var, value), _, _, reasons) = case;
+    let (_, (var, value), _, reasons) = case;
     let reasons = pairs_of(alloc, reasons)?;
     let kind = Kind::from_con(alloc, con)?;
     assert_reason(
@@ -180,7 +170,7 @@ fn assert_told(
         reasons.as_slice(),
         case,
     )?;
-    assert_rule(rt, alloc, &kind, store, case, reasons.as_slice())
+    assert_rule(rt, alloc, &kind, store, case)
 }
 
 /// Asserts that the sample's constraint tells what the case has.
@@ -214,133 +204,106 @@ const CASES: &[Case] = &[
     (
         Sample::Variables(Op::Lt, 0),
         (0, 2),
-        Wanted::Above(1, 1),
-        i32::MAX,
+        Some((Wanted::Above(1, 1), i32::MAX)),
         &[(1, 3), (1, 7)],
     ),
     (
         Sample::Variables(Op::Le, -1),
         (0, 2),
-        Wanted::Above(1, 1),
-        i32::MAX,
+        Some((Wanted::Above(1, 1), i32::MAX)),
         &[(1, 3), (1, 7)],
     ),
     (
         Sample::Variables(Op::Gt, 0),
         (0, 2),
-        Wanted::Below(1, -1),
-        i32::MAX,
+        Some((Wanted::Below(1, -1), i32::MAX)),
         &[(1, 1)],
     ),
     (
         Sample::Variables(Op::Ge, 1),
         (0, 2),
-        Wanted::Below(1, -1),
-        i32::MAX,
+        Some((Wanted::Below(1, -1), i32::MAX)),
         &[(1, 1)],
     ),
     (
         Sample::Variables(Op::Eq, 1),
         (0, 2),
-        Wanted::At(1, -1),
-        i32::MAX,
+        Some((Wanted::At(1, -1), i32::MAX)),
         &[(1, 1)],
     ),
     (
         Sample::Variables(Op::Eq, 1),
         (1, 2),
-        Wanted::At(0, 1),
-        i32::MAX,
+        Some((Wanted::At(0, 1), i32::MAX)),
         &[(0, 3)],
     ),
     (
         Sample::Variables(Op::Ne, 5),
         (0, 7),
-        Wanted::Other(1, -5),
-        i32::MAX,
+        Some((Wanted::Other(1, -5), i32::MAX)),
         &[(1, 1), (1, 3), (1, 7)],
     ),
     (
         Sample::Constant(Op::Lt, 5),
         (0, 7),
-        Wanted::Empty,
-        i32::MAX,
+        Some((Wanted::Empty, i32::MAX)),
         &[],
     ),
-    (Sample::Within, (0, 1), Wanted::Empty, i32::MAX, &[]),
+    (Sample::Within, (0, 1), Some((Wanted::Empty, i32::MAX)), &[]),
     (
         Sample::Differ,
         (0, 2),
-        Wanted::Other(1, 0),
-        2,
+        Some((Wanted::Other(1, 0), 2)),
         &[(1, 1), (1, 3), (1, 7)],
     ),
     (
         Sample::Total(Op::Le, 3),
         (0, 2),
-        Wanted::Listed(1),
-        i32::MAX,
+        Some((Wanted::Listed(1), i32::MAX)),
         &[(1, 1)],
     ),
     (
         Sample::Sum(Op::Ge),
         (0, 1),
-        Wanted::Listed(1),
-        i32::MAX,
+        Some((Wanted::Listed(1), i32::MAX)),
         &[(1, 1)],
     ),
     (
         Sample::Total(Op::Eq, 5),
         (0, 1),
-        Wanted::Listed(1),
-        1,
+        Some((Wanted::Listed(1), 1)),
         &[(1, 3), (1, 7)],
     ),
     (
         Sample::Total(Op::Eq, 5),
         (0, 7),
-        Wanted::Listed(1),
-        7,
+        Some((Wanted::Listed(1), 7)),
         &[(1, 1)],
     ),
     (
         Sample::Total(Op::Ne, 4),
         (0, 2),
-        Wanted::Listed(2),
-        i32::MAX,
+        None,
         &[(1, 1), (1, 3), (1, 7)],
     ),
-    (
-        Sample::Count(Op::Ge),
-        (0, 1),
-        Wanted::Listed(1),
-        6,
-        &[(1, 7)],
-    ),
-    (
-        Sample::CountVariable(Op::Eq),
-        (2, 2),
-        Wanted::Listed(1),
-        6,
-        &[(1, 7)],
-    ),
-    (Sample::Count(Op::Lt), (0, 7), Wanted::Listed(0), 7, &[]),
+    (Sample::Count(Op::Ge), (0, 1), None, &[(1, 7)]),
+    (Sample::CountVariable(Op::Eq), (2, 2), None, &[(1, 7)]),
+    (Sample::Count(Op::Lt), (0, 7), None, &[]),
     (
         Sample::Table,
         (0, 7),
-        Wanted::Beside(1),
-        i32::MAX,
+        Some((Wanted::Listed(2), 7)),
         &[(1, 1), (1, 3)],
     ),
-    (Sample::WideTable, (0, 7), Wanted::Listed(1), 7, &[(2, 3)]),
-    (Sample::Element, (2, 2), Wanted::Listed(1), 2, &[(0, 3)]),
-    (Sample::Element, (0, 1), Wanted::Listed(1), 1, &[(2, 3)]),
+    (Sample::WideTable, (0, 7), None, &[(2, 3)]),
+    (Sample::Element, (2, 2), None, &[(0, 3)]),
+    (Sample::Element, (0, 1), None, &[(2, 3)]),
 ];
 
 /// What each kind tells, which the cases have.
-struct Told;
+struct Rules;
 
-impl Question for Told {
+impl Question for Rules {
     fn assert_answer(
         &self,
         rt: &impl Abort,
@@ -366,6 +329,6 @@ impl Question for Told {
 
 #[test]
 fn reasons_are_told_by_these_rules(rt: HostRuntime) -> Result<(), Fail> {
-    assert_answers(&rt, rt.alloc(), &Told)?;
+    assert_answers(&rt, rt.alloc(), &Rules)?;
     Ok(())
 }

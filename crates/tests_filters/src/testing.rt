@@ -119,7 +119,7 @@ pub fn reason_of<F: Filter>(
     Ok(Some(out))
 }
 
-/// The rule of a pair, with its list, where there is a reason.
+/// The rule of a pair, with its list, where there is a reason and a rule is told.
 pub fn rule_of<F: Filter>(
     alloc: Global,
     filter: &F,
@@ -137,8 +137,10 @@ pub fn rule_of<F: Filter>(
         return Ok(None);
     }
     let mut out = Intervals::new(alloc);
-    let known = filter.rule(store, pair, &mut out)?;
-    Ok(Some((known, out)))
+    match filter.rule(store, pair, &mut out)? {
+        Some(known) => Ok(Some((known, out))),
+        None => Ok(None),
+    }
 }
 
 /// Whether the pair is one of the constraint's variables, present and supported.

@@ -1,6 +1,7 @@
 use Rattle.std.proofs.Common.{◌+ℤ◌}
 use Rattle.palm_domain.specs.Rows.{initial_of}
-use Rattle.palm_filter.proofs.Listing.{on_ok, listed_sides}
+use Rattle.palm_filter.proofs.Listing.{listed_sides}
+use Rattle.palm_filter.proofs.cited.Written.{on_ok}
 use Rattle.palm_filter.proofs.intervals.push_others.Goals as goal
 
 pub returns : goal.returns
