@@ -1,5 +1,5 @@
 -- The numbers in rows: one is found by its value, set at its place, and put in where it is not.
-use Rattle.std.proofs.Common.{◌≡◌, ℕ, zero, suc, ℤ, ◌<◌, ◌≤◌, ◌<ℤ◌, ◌≤ℤ◌, true, false, cond, List, [], ◌∷◌, ◌++◌, length, set, get_or, slice_get, Contains, Some, None, Result, Ok, Err, Ordering, Less, Equal, Greater, ◌⊎◌, inl, inr, refl, sym, ap, ◌∙◌, subst, arith, int_eq}
+use Rattle.std.proofs.Common.{◌≡◌, ℕ, zero, suc, ℤ, ◌<◌, ◌≤◌, ◌<ℤ◌, ◌≤ℤ◌, true, false, cond, List, [], ◌∷◌, ◌++◌, length, replicate, set, get_or, slice_get, Contains, Some, None, Result, Ok, Err, Ordering, Less, Equal, Greater, ◌⊎◌, inl, inr, refl, sym, ap, ◌∙◌, subst, arith, int_eq}
 use Rattle.std.specs.List.{insert}
 use Rattle.std.specs.List.Sorted.{IsBinarySearchResult, IsSearchInRange}
 use Rattle.std.specs.Ordering.{int_cmp, ordering_index, MatchOrdering}
@@ -13,7 +13,7 @@ use Rattle.palm_base.specs.declared.terms.Pair.{Pair}
 use Rattle.palm_base.specs.Ascending.{Ascends}
 use Rattle.palm_domain.proofs.cited.Ascending.{get_or-rises}
 use Rattle.palm_explain.specs.declared.rows.Row.{Row}
-use Rattle.palm_explain.specs.Rows.{AreFormedRows, IsFormedRow, number_at, number_in, row_number}
+use Rattle.palm_explain.specs.Rows.{AreFormedRows, IsFormedRow, KeepsRemovals, number_at, number_in, row_number}
 
 int_same : (v : ℤ) → int_eq v v ≡ true
 int_same v = (Decides-int_eq v v).1 refl
@@ -205,3 +205,21 @@ number_within rows p k is = number_in_row rows p.var k p.value is
 
 pub row_formed : (rows : List Row) (x : ℕ) (r : Row) → AreFormedRows rows → slice_get rows x ≡ Some r → IsFormedRow r
 row_formed rows x r formed at = All-contains IsFormedRow rows r formed (member_get rows x r at)
+
+-- ---- values of which none is removed
+
+pub number_blank : (values : List ℤ) (m n : ℕ) (v : ℤ) (k : ℕ) → number_in values (replicate m n) v ≡ Some k → k ≡ n
+number_blank [] m n v k is = cc
+number_blank (w ∷ values) zero n v k is = cc
+number_blank (w ∷ values) (suc m) n v k is = elim (cases_Bool (int_eq w v)) [
+  | inl t ↦ let same : Some n ≡ Some k = sym (ap (λ b. cond b (Some n) (number_in values (replicate m n) v)) t) ∙ is in cc
+  | inr f ↦ number_blank values m n v k (sym (ap (λ b. cond b (Some n) (number_in values (replicate m n) v)) f) ∙ is)
+]
+
+-- ---- rows of which all removals stay
+
+pub keeps_all : (rows more : List Row) → ((p : Pair) → number_at more p ≡ number_at rows p) → KeepsRemovals rows more
+keeps_all rows more same = record {
+  stay = λ p k is. same p ∙ is;
+  only = λ p k is. inl (sym (same p) ∙ is);
+}

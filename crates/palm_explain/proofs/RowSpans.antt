@@ -72,22 +72,33 @@ module _ (r : Row) (n : ℕ) (high : ℤ) where
   abbrev up_to : ℤ → Bool
   up_to v = int_le v high && is_less (number_in r.values.items r.numbers.items v) n
 
-  pub rest_from : (low : ℤ) (i : ℕ) → i ≤ length r.values.items → AllWithin (λ v. is_lt (int_cmp v low) ≡ true) r.values.items 0 i → AllWithin (λ v. is_lt (int_cmp v low) ≡ false) r.values.items i (length r.values.items)
-      → rest_in r n high i ≡ span_in r n low high
-  rest_from low i within below above =
+  -- where those before the place are below, and those from it on are not
+  rest_parted : (low : ℤ) (i : ℕ) → ((k : ℕ) (v : ℤ) → slice_get r.values.items k ≡ Some v → k < i → v <ℤ low) → ((k : ℕ) (v : ℤ) → slice_get r.values.items k ≡ Some v → i ≤ k → low ≤ℤ v) → rest_in r n high i ≡ span_in r n low high
+  rest_parted low i below above =
       let vs = r.values.items in
       let both : ℤ → Bool = λ v. int_le low v && up_to v in
       let first : filter both (take i vs) ≡ [] = filter_none both (take i vs) (λ v m.
       let p = take_place i vs v m in
-      let less = lt_from_is_lt (get_or vs p.0 v) low (sym (below p.0 v (omega arith) p.1)) in
-      let is = get_or_from_slice_get vs p.0 v v p.2 in
-      ap (λ b. b && up_to v) (le_false low v (subst (λ w. w <ℤ low) is less))) in
+      ap (λ b. b && up_to v) (le_false low v (below p.0 v p.2 p.1))) in
       let second : filter both (drop i vs) ≡ filter up_to (drop i vs) = filter_agree_members both up_to (drop i vs) (λ v m.
       let p = drop_place i vs v m in
-      let ge = ge_from_is_lt (get_or vs p.0 v) low (sym (above p.0 v p.1 (slice_get_within vs p.0 v p.2))) in
-      let is = get_or_from_slice_get vs p.0 v v p.2 in
-      ap (λ b. b && up_to v) (le_true low v (subst (λ w. low ≤ℤ w) is ge))) in
+      ap (λ b. b && up_to v) (le_true low v (above p.0 v p.2 p.1))) in
       sym (ap (filter both) (sym (take-append-drop i vs)) ∙ filter-append both (take i vs) (drop i vs) ∙ ap (λ l. l ++ filter both (drop i vs)) first ∙ second)
+
+  pub rest_from : (low : ℤ) (i : ℕ) → AllWithin (λ v. is_lt (int_cmp v low) ≡ true) r.values.items 0 i → AllWithin (λ v. is_lt (int_cmp v low) ≡ false) r.values.items i (length r.values.items) → rest_in r n high i ≡ span_in r n low high
+  rest_from low i below above =
+      let vs = r.values.items in
+      rest_parted low i
+      (λ k v at lt. subst (λ w. w <ℤ low) (get_or_from_slice_get vs k v v at) (lt_from_is_lt (get_or vs k v) low (sym (below k v (omega arith) lt))))
+      (λ k v at le. subst (λ w. low ≤ℤ w) (get_or_from_slice_get vs k v v at) (ge_from_is_lt (get_or vs k v) low (sym (above k v le (slice_get_within vs k v at)))))
+
+  -- at the place of the low value
+  pub rest_at : (low : ℤ) (i : ℕ) → Ascends r.values.items → i < length r.values.items → get_or r.values.items i low ≡ low → rest_in r n high i ≡ span_in r n low high
+  rest_at low i ascends within here =
+      let vs = r.values.items in
+      rest_parted low i
+      (λ k v at lt. let rises = get_or-ascends vs ascends k i v low lt within in let is = get_or_from_slice_get vs k v v at in omega (arith, ints, rises, is, here))
+      (λ k v at le. let rises = get_or-rises vs ascends i k low v le (slice_get_within vs k v at) in let is = get_or_from_slice_get vs k v v at in omega (arith, ints, rises, is, here))
 
   -- ---- the next place
 

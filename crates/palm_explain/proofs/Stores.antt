@@ -20,7 +20,7 @@ use Rattle.palm_explain.specs.declared.spans.Span.{Span}
 use Rattle.palm_explain.specs.Entries.{AreEntered, AreSpansOf, IsCounted, IsWhole, counted, log_of, removal_of, span_values, written}
 use Rattle.palm_explain.specs.Explanations.{log_bys, reasons_of}
 use Rattle.palm_explain.specs.Firsts.{AreFormedFirsts, first_of}
-use Rattle.palm_explain.specs.Rows.{AreFormedRows, number_at}
+use Rattle.palm_explain.specs.Rows.{AreFormedRows, KeepsRemovals, number_at}
 use Rattle.palm_explain.proofs.Reasons.{entry_numbered, map_place, pair_entry, parted_entry, some_same, span_same, written_same}
 
 -- ---- rows that know the same before a number
@@ -57,21 +57,30 @@ module _ (rows more : List Row) (n : ℕ) (one : AreFormedRows rows) (two : AreF
 below_next : (entries : List Entry) (rows : List Row) (next : ℕ) → AreEntered entries rows next → (e : Entry) → Contains entries e → e.number ≤ next
 below_next entries rows next are e m = let lt = are.below e m in omega (arith, lt)
 
--- rows that say the same
-pub entered_like : (entries : List Entry) (rows more : List Row) (next : ℕ) → AreEntered entries rows next → AreFormedRows more → ((p : Pair) → number_at more p ≡ number_at rows p) → AreEntered entries more next
-entered_like entries rows more next are formed same = record {
-  rises = are.rises;
-  below = are.below;
-  most = are.most;
-  formed = formed;
-  found = λ e m. same e.pair ∙ are.found e m;
-  only = λ p k is. are.only p k (sym (same p) ∙ is);
-  counted = λ e m. counted_same rows more next are.formed formed (λ p k is lt. same p ∙ is) (λ p k is lt. sym (same p) ∙ is) e (below_next entries rows next are e m) (are.counted e m);
-}
+-- rows that say the same of all that is removed
+module _ (entries : List Entry) (rows more : List Row) (next : ℕ) (are : AreEntered entries rows next) (formed : AreFormedRows more) (keeps : KeepsRemovals rows more) where
+  known : Knows rows more next
+  known p k is lt = keeps.stay p k is
 
-pub log_like : (entries : List Entry) (rows more : List Row) (next : ℕ) → AreEntered entries rows next → AreFormedRows more → ((p : Pair) → number_at more p ≡ number_at rows p) → log_of more entries ≡ log_of rows entries
-log_like entries rows more next are formed same =
-    log_same rows more next are.formed formed (λ p k is lt. same p ∙ is) (λ p k is lt. sym (same p) ∙ is) entries (below_next entries rows next are)
+  known_before : Knows more rows next
+  known_before p k is lt = elim (keeps.only p k is) [
+    | inl o ↦ o
+    | inr none ↦ let most = are.most in absurd (omega (arith, none, lt, most))
+  ]
+
+  pub entered_like : AreEntered entries more next
+  entered_like = record {
+    rises = are.rises;
+    below = are.below;
+    most = are.most;
+    formed = formed;
+    found = λ e m. keeps.stay e.pair e.number (are.found e m);
+    only = λ p k is. elim (keeps.only p k is) [ inl o ↦ are.only p k o | inr none ↦ inl none ];
+    counted = λ e m. counted_same rows more next are.formed formed known known_before e (below_next entries rows next are e m) (are.counted e m);
+  }
+
+  pub log_like : log_of more entries ≡ log_of rows entries
+  log_like = log_same rows more next are.formed formed known known_before entries (below_next entries rows next are)
 
 -- ---- one more entry
 
@@ -136,10 +145,10 @@ module _ (entries : List Entry) (rows more : List Row) (next : ℕ) (e : Entry) 
 -- ---- what is kept
 
 -- with more first numbers, and more room
-pub whole_like : (entries : List Entry) (rows more : List Row) (next room larger : ℕ) (firsts later : Firsts) → IsWhole entries rows next room firsts → AreFormedRows more → ((p : Pair) → number_at more p ≡ number_at rows p) → room ≤ larger
+pub whole_like : (entries : List Entry) (rows more : List Row) (next room larger : ℕ) (firsts later : Firsts) → IsWhole entries rows next room firsts → AreFormedRows more → KeepsRemovals rows more → room ≤ larger
     → AreFormedFirsts later → ((c : Cid) (k : ℕ) → first_of firsts c ≡ Some k → (j : ℕ) × (first_of later c ≡ Some j) × (j ≤ k)) → IsWhole entries more next larger later
-whole_like entries rows more next room larger firsts later whole formed same grows firm stays = record {
-  entered = entered_like entries rows more next whole.entered formed same;
+whole_like entries rows more next room larger firsts later whole formed keeps grows firm stays = record {
+  entered = entered_like entries rows more next whole.entered formed keeps;
   unmarked = whole.unmarked;
   formed = firm;
   begun = λ e m. let k = whole.begun e m in let j = stays e.by k.0 k.1 in (j.0, j.1, (let a = j.2 in let b = k.2 in omega (arith, a, b)));

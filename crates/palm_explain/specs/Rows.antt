@@ -1,5 +1,5 @@
 -- The numbers of removed pairs: a row for each variable, with the values that it lost at some time and a number beside each.
-use Rattle.std.specs.Prelude.{◌≡◌, ◌≢◌, ℕ, ◌<◌, ℤ, Bool, false, ◌&&◌, List, [], ◌∷◌, All, length, drop, filter, Contains, Option, Some, None, slice_get, nat_lt, int_le, if◌then◌else◌}
+use Rattle.std.specs.Prelude.{◌≡◌, ◌≢◌, ◌⊎◌, ℕ, ◌<◌, ℤ, Bool, false, ◌&&◌, List, [], ◌∷◌, All, length, drop, filter, Contains, Option, Some, None, slice_get, nat_lt, int_le, if◌then◌else◌}
 use Rattle.std.specs.Ordering.{int_eq}
 use Rattle.palm_base.specs.declared.terms.Pair.{Pair}
 use Rattle.palm_base.specs.Ascending.{Ascends}
@@ -32,6 +32,11 @@ number_at rows p = row_number (slice_get rows p.var) p.value
 pub record HasNumber (rows : List Row) (p : Pair) (k : ℕ) : Type 0 where
   pub stands : number_at rows p ≡ Some k
   pub removed : k ≢ NO_NUMBER
+
+-- all numbers stay, and what has another one is not removed
+pub record KeepsRemovals (old new : List Row) : Type 0 where
+  pub stay : (p : Pair) (k : ℕ) → number_at old p ≡ Some k → number_at new p ≡ Some k
+  pub only : (p : Pair) (k : ℕ) → number_at new p ≡ Some k → (number_at old p ≡ Some k) ⊎ (k ≡ NO_NUMBER)
 
 -- each of these pairs was removed before the number
 abbrev pub WereRemoved : List Row → ℕ → List Pair → Type 0

@@ -5,6 +5,7 @@ ghost use Rattle.palm_base.specs.Order.{IsPartedAt};
 
 use crate::spans::Span;
 use palm_base::{Cid, Pair};
+use smallvec::SmallVec;
 
 /// A removal: its pair, the constraint that made it, and what it rests on.
 #[derive(Debug, Drop)]
@@ -16,7 +17,7 @@ pub(crate) struct Entry {
     /// Stands while a walk is on its way. No mark stands between calls.
     pub(crate) mark: bool,
     /// The reasons, in their order.
-    pub(crate) spans: Vec<Span>,
+    pub(crate) spans: SmallVec<Span, 2>,
 }
 
 /// Whether the entry at a place has the number.

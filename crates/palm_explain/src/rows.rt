@@ -1,8 +1,9 @@
 //! The numbers of removed pairs, in a row for each variable, so that none is looked up by hashing.
-ghost use Rattle.std.specs.Prelude.{◌≡◌, ◌≢◌, ℕ, ℤ, ◌+◌, ◌<◌, ◌≤◌, true, None, Some, [], ◌∷◌, length, slice_get, slice_index_or, IfNone, IfSome, MatchOption, OnErr, OnOk};
+ghost use Rattle.std.specs.Prelude.{◌≡◌, ◌≢◌, ◌⊎◌, ℕ, ℤ, ◌+◌, ◌<◌, ◌≤◌, true, None, Some, [], ◌∷◌, length, slice_get, slice_index_or, IfNone, IfSome, MatchOption, OnErr, OnOk};
+ghost use Rattle.palm_base.specs.Ascending.{Ascends};
 ghost use Rattle.palm_base.specs.declared.terms.Pair.{Pair as PairTerm};
 ghost use Rattle.palm_explain.specs.Restored.{KeepsNumbers, slot_at};
-ghost use Rattle.palm_explain.specs.Rows.{AreFormedRows, IsFormedRow, number_at, number_in, rest_in, span_in};
+ghost use Rattle.palm_explain.specs.Rows.{AreFormedRows, IsFormedRow, KeepsRemovals, number_at, number_in, rest_in, span_in};
 
 use palm_base::{NoMemory, Pair, Value, Var};
 use std::alloc::{AllocError, AllocFailed, Global};
@@ -40,9 +41,38 @@ impl Row {
         place < self.values.len() && self.values[place] == value
     }
 
-    /// The place of a value. (Out of line, so that its caller is small where it goes without.)
-    #[inline(never)]
+    /// The place of the value, where the row has all numbers from its first to it. The difference of a value below the
+    /// first wraps, to a place behind any row's end.
+    #[inline(always)]
+    fn gapless_place(&self, value: Value) -> Option<usize>
+        ensures { IfSome result (λ place. (place < length self.now.values.items) × (slice_index_or self.now.values.items place value ≡ value)) }
+    {
+        let first = self.values.first()?;
+        let place = value.0.wrapping_sub(first.0).cast_unsigned() as usize;
+        if self.has_at(place, value) {
+            Some(place)
+        } else {
+            None
+        }
+    }
+
+    /// The place of a value.
+    #[inline(always)]
     fn place_of(&self, value: Value) -> Option<usize>
+        requires { IsFormedRow self.now }
+        ensures { MatchOption result
+            (number_in self.now.values.items self.now.numbers.items value ≡ None)
+            (λ place. (place < length self.now.values.items) × (slice_index_or self.now.values.items place value ≡ value)) }
+    {
+        match self.gapless_place(value) {
+            Some(place) => Some(place),
+            None => self.sparse_place(value),
+        }
+    }
+
+    /// The place of a value, whatever numbers the row leaves out. (Out of line, so that its caller is small where it goes without.)
+    #[inline(never)]
+    fn sparse_place(&self, value: Value) -> Option<usize>
         requires { IsFormedRow self.now }
         ensures { MatchOption result
             (number_in self.now.values.items self.now.numbers.items value ≡ None)
@@ -93,6 +123,18 @@ impl Row {
         requires { IsFormedRow self.now }
         ensures { (n : ℕ) (high : ℤ) → rest_in self.now n high result ≡ span_in self.now n low high }
     {
+        match self.gapless_place(low) {
+            Some(place) => place,
+            None => self.sparse_from(low),
+        }
+    }
+
+    /// How many of the values are less, whatever numbers the row leaves out.
+    #[inline(never)]
+    fn sparse_from(&self, low: Value) -> usize
+        requires { IsFormedRow self.now }
+        ensures { (n : ℕ) (high : ℤ) → rest_in self.now n high result ≡ span_in self.now n low high }
+    {
         self.values.partition_point(|value| *value < low)
     }
 
@@ -140,7 +182,27 @@ impl Row {
     }
 
     /// Sets the number of a value; without memory nothing changes.
+    #[inline(always)]
     fn put(&mut self, value: Value, number: usize) -> Result<(), NoMemory>
+        requires { IsFormedRow self.old }
+        ensures formed { IsFormedRow self.new }
+        ensures there { OnOk result (number_in self.new.values.items self.new.numbers.items value ≡ Some number) }
+        ensures err { OnErr result ((v : ℤ) → number_in self.new.values.items self.new.numbers.items v ≡ number_in self.old.values.items self.old.numbers.items v) }
+        ensures others { (v : ℤ) → (v ≡ value → ⊥)
+            → number_in self.new.values.items self.new.numbers.items v ≡ number_in self.old.values.items self.old.numbers.items v }
+    {
+        match self.gapless_place(value) {
+            Some(place) => {
+                self.numbers[place] = number;
+                Ok(())
+            }
+            None => self.put_sparse(value, number),
+        }
+    }
+
+    /// Sets the number of a value, whatever numbers the row leaves out; without memory nothing changes.
+    #[inline(never)]
+    fn put_sparse(&mut self, value: Value, number: usize) -> Result<(), NoMemory>
         requires { IsFormedRow self.old }
         ensures formed { IsFormedRow self.new }
         ensures there { OnOk result (number_in self.new.values.items self.new.numbers.items value ≡ Some number) }
@@ -156,6 +218,25 @@ impl Row {
                 self.numbers.insert(place, number).unwrap();
             }
         }
+        Ok(())
+    }
+
+    /// Takes the values, none of which is removed, if it has none yet. Without memory nothing changes.
+    fn declare(&mut self, values: &[Value]) -> Result<(), NoMemory>
+        requires formed { IsFormedRow self.old }
+        requires ascend { Ascends values.now }
+        ensures formed { IsFormedRow self.new }
+        ensures stay { (v : ℤ) (k : ℕ) → number_in self.old.values.items self.old.numbers.items v ≡ Some k → number_in self.new.values.items self.new.numbers.items v ≡ Some k }
+        ensures only { (v : ℤ) (k : ℕ) → number_in self.new.values.items self.new.numbers.items v ≡ Some k
+            → (number_in self.old.values.items self.old.numbers.items v ≡ Some k) ⊎ (k ≡ NO_NUMBER) }
+    {
+        if !self.values.is_empty() {
+            return Ok(());
+        }
+        let alloc = *self.values.allocator();
+        let numbers = vec![in alloc; NO_NUMBER; values.len()]?;
+        self.values = Vec::from_slice(alloc, values)?;
+        self.numbers = numbers;
         Ok(())
     }
 }
@@ -215,6 +296,22 @@ pub(crate) fn put_number(rows: &mut Vec<Row>, pair: &Pair, number: usize) -> Res
     reach(rows, place + 1)?;
     let row = &mut rows[place];
     row.put(pair.value, number)
+}
+
+/// Gives the row of a variable these values, none of which is removed, if it has none yet. All removals stay.
+pub(crate) fn declare_values(
+    rows: &mut Vec<Row>,
+    var: Var,
+    values: &[Value],
+) -> Result<(), NoMemory>
+    requires formed { AreFormedRows rows.old.items }
+    requires ascend { Ascends values.now }
+    ensures formed { AreFormedRows rows.new.items }
+    ensures removals { KeepsRemovals rows.old.items rows.new.items }
+{
+    let place = var.0 as usize;
+    reach(rows, place + 1)?;
+    rows[place].declare(values)
 }
 
 /// Sets the number of a pair that has one.

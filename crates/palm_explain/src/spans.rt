@@ -8,6 +8,7 @@ ghost use Rattle.palm_explain.specs.declared.spans.Span.{Span as SpanTerm};
 
 use crate::rows::{Row, row_of};
 use palm_base::{NoMemory, Pair, Value, Var};
+use smallvec::SmallVec;
 use std::alloc::{AllocError, Global};
 
 /// Reasons that follow one another: the removals of the variable's values from `low` to `high` that were made before the
@@ -83,12 +84,16 @@ fn span_at(rows: &[Row], reasons: &[Pair], start: usize) -> Span
 }
 
 /// The spans of a list of reasons, all of which are removed.
-pub(crate) fn spans_of(alloc: Global, rows: &[Row], reasons: &[Pair]) -> Result<Vec<Span>, NoMemory>
+pub(crate) fn spans_of(
+    alloc: Global,
+    rows: &[Row],
+    reasons: &[Pair],
+) -> Result<SmallVec<Span, 2>, NoMemory>
     requires formed { AreFormedRows rows.now }
     requires removed { (p : PairTerm) → Contains reasons.now p → (k : ℕ) × (number_at rows.now p ≡ Some k) }
     ensures { IfOk result (λ spans. (n : ℕ) → WereRemoved rows.now n reasons.now → AreSpansOf rows.now n spans.items reasons.now) }
 {
-    let mut spans = Vec::new(alloc);
+    let mut spans = SmallVec::new(alloc);
     let mut start = 0;
     while start < reasons.len() {
         let span = span_at(rows, reasons, start);

@@ -2,7 +2,7 @@
 ghost use Rattle.std.specs.Prelude.{◌≡◌, ◌↔◌, ℕ, ℤ, ◌<◌, List, Some, [], ◌∷◌, ◌++◌, length, slice_get, Contains, MatchOption, OnOk, OnErr, vec_len};
 ghost use Rattle.palm_base.specs.Tells.{Tells};
 ghost use Rattle.palm_base.specs.declared.terms.Pair.{Pair as PairTerm};
-ghost use Rattle.palm_domain.specs.Rows.{initial_of};
+ghost use Rattle.palm_domain.specs.Rows.{Ascends, initial_of};
 ghost use Rattle.palm_model.specs.Constraint.{Distinct};
 ghost use Rattle.palm_model.specs.Event.{lost_pairs, vars_of};
 ghost use Rattle.palm_model.specs.Log.{IsListOf, Loses, NamesOfPair, log_pairs};
@@ -11,16 +11,17 @@ ghost use Rattle.palm_explain.specs.Needed.{AreNeeded};
 ghost use Rattle.palm_explain.specs.Explanations.{AreEnds, AreSpanned, IsLinked, IsSpanned, LacksExactly, NamesOfSome, log_bys, reasons_of, restored_vars};
 
 use crate::entry::{Entry, place_of};
-use crate::firsts::Firsts;
+use crate::firsts::{Firsts, note_next};
 use crate::losing::lose_each;
 use crate::naming::names_at;
 use crate::needing::{add_needed, cids_of};
 use crate::restored::Restored;
-use crate::rows::{NO_NUMBER, Row, number_of, put_number};
+use crate::rows::{NO_NUMBER, Row, declare_values, number_of, put_number};
 use crate::spans::{Span, count_of, reason_in, spans_of};
 use crate::withdrawing::close_up;
 use palm_base::{Cid, CidList, NoMemory, Pair, Value, Var};
 use palm_domain::DomainStore;
+use smallvec::SmallVec;
 use std::alloc::{AllocError, Global};
 use std::marker::Model;
 
@@ -64,6 +65,15 @@ impl ExplainStore {
         }
     }
 
+    /// Tells the values of a variable of which nothing was entered yet, so that its removals are found without a search. Where
+    /// something was, nothing changes.
+    pub fn declare(&mut self, var: Var, values: &[Value]) -> Result<(), NoMemory>
+        requires { Ascends values.now }
+        ensures { self.new ≡ self.old }
+    {
+        declare_values(&mut self.rows, var, values)
+    }
+
     /// Adds a removal behind the others; without memory nothing changes.
     pub fn enter(&mut self, pair: Pair, by: Cid, reasons: &[Pair]) -> Result<(), NoMemory>
         requires fresh { Contains (log_pairs self.old.log) pair → ⊥ }
@@ -83,12 +93,12 @@ impl ExplainStore {
             → OnOk result (self.new ≡ record self.old { log = self.old.log ++ record { pair = pair; by = by; reasons = reasons } ∷ [] }) }
         ensures err { OnErr result (self.new ≡ self.old) }
     {
-        let own = Vec::from_slice(*self.log.allocator(), spans)?;
+        let own = SmallVec::from_slice(*self.log.allocator(), spans)?;
         self.put(pair, by, own)
     }
 
     /// Adds a removal with these spans behind the others; without memory nothing changes.
-    fn put(&mut self, pair: Pair, by: Cid, spans: Vec<Span>) -> Result<(), NoMemory>
+    fn put(&mut self, pair: Pair, by: Cid, spans: SmallVec<Span, 2>) -> Result<(), NoMemory>
         requires fresh { Contains (log_pairs self.old.log) pair → ⊥ }
         requires spanned { (reasons : List PairTerm) × AreSpanned (log_pairs self.old.log) spans.items reasons }
         ensures ok { (reasons : List PairTerm) → AreSpanned (log_pairs self.old.log) spans.items reasons
@@ -96,12 +106,12 @@ impl ExplainStore {
         ensures err { OnErr result (self.new ≡ self.old) }
     {
         let number = self.next;
-        if number == NO_NUMBER || count_of(&spans).is_none() {
+        if number == NO_NUMBER || count_of(spans.as_slice()).is_none() {
             return Err(NoMemory);
         }
         self.restored.reserve(self.log.len() + 1)?;
         self.log.reserve(1)?;
-        self.firsts.note(&by, number)?;
+        note_next(&mut self.firsts, &self.log, &by, number)?;
         put_number(&mut self.rows, &pair, number)?;
         self.log.push_reserved(Entry {
             number,
@@ -143,7 +153,7 @@ impl ExplainStore {
         requires { place < length self.now.log }
         ensures { result ≡ length (reasons_of self.now.log place) }
     {
-        count_of(&self.log[place].spans).unwrap()
+        count_of(self.log[place].spans.as_slice()).unwrap()
     }
 
     /// A reason of the removal at a place.
@@ -153,7 +163,7 @@ impl ExplainStore {
         ensures { slice_get (reasons_of self.now.log place) index ≡ Some result }
     {
         let entry = &self.log[place];
-        reason_in(&self.rows, &entry.spans, entry.number, index)
+        reason_in(&self.rows, entry.spans.as_slice(), entry.number, index)
     }
 
     /// The place of a pair's removal.

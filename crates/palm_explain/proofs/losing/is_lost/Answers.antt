@@ -25,7 +25,7 @@ returns c short = elim short [
   | inl by ↦ false≢true (sym c.if-is_same.false ∙ c.is_same.ensures ∙ ap (same_cid c.args.entry.now.by) (sym by) ∙ same_cid_itself c.args.entry.now.by)
   | inr s ↦
       let items = c.as_slice-span-items.result.now in
-      let there = subst (λ l. Contains l s.0) (sym c.as_slice-span-items.ensures.value) s.1 in
+      let there = subst (λ l. Contains l s.0) (sym c.as_slice-span-items.ensures) s.1 in
       let all = take_all c.loop-span.span-index items c.loop-span-test.false in
       s.2 (c.loop-span.invariant s.0 (subst (λ l. Contains l s.0) (sym all) there))
 ]

@@ -17,7 +17,7 @@ returns-then-has_mark c =
     let items = c.as_slice-span-items.result.now in
     let s = c.span-item.result in
     let at : slice_get items c.loop-span.span-index ≡ Some s = slice_get-get_or items c.loop-span.span-index s c.loop-span-test.true ∙ ap Some (sym c.span-item.is) in
-    let m = subst (λ l. Contains l s) c.as_slice-span-items.ensures.value (member_get items c.loop-span.span-index s at) in
+    let m = subst (λ l. Contains l s) c.as_slice-span-items.ensures (member_get items c.loop-span.span-index s at) in
     let p = c.if-has_mark.ensures in
     inr (p.0, member_flat_map (span_pairs c.args.rows.now c.args.entry.now.number) c.args.entry.now.spans.items s p.0 m p.1, p.2)
 
@@ -35,7 +35,7 @@ returns c falls = elim falls [
   | inr p ↦
       let items = c.as_slice-span-items.result.now in
       let s = flat_map_member (span_pairs c.args.rows.now c.args.entry.now.number) c.args.entry.now.spans.items p.0 p.1 in
-      let there = subst (λ l. Contains l s.0) (sym c.as_slice-span-items.ensures.value) s.1 in
+      let there = subst (λ l. Contains l s.0) (sym c.as_slice-span-items.ensures) s.1 in
       let all = take_all c.loop-span.span-index items c.loop-span-test.false in
       c.loop-span.invariant s.0 p.0 (subst (λ l. Contains l s.0) (sym all) there) s.2 p.2
 ]

@@ -1,4 +1,4 @@
-use Rattle.std.proofs.Common.{◌≡◌, ◌∙◌, ap, subst, sym, take, take_all, arith}
+use Rattle.std.proofs.Common.{◌≡◌, ◌∙◌, ap, take, take_all, arith}
 use Rattle.std.proofs.lemmas.List.Sums.{sum_by_more_le}
 use Rattle.palm_explain.specs.Entries.{counted}
 use Rattle.palm_explain.specs.declared.spans.Span.{Span}

@@ -9,7 +9,7 @@ loop-start-preserved c =
     let s = c.span_at-span.result in
     record {
       within = c.span_at-span.ensures.within;
-      spans = λ n removed. subst (λ ss. AreSpansOf c.args.rows.now n ss (take (c.loop-start.start + s.count) reasons)) (sym c.in_ok-push.ensures.items)
+      spans = λ n removed. subst (λ ss. AreSpansOf c.args.rows.now n ss (take (c.loop-start.start + s.count) reasons)) (sym c.in_ok-push.ensures.ok)
           (spans_next c.args.rows.now n c.loop-start.spans.items s reasons c.loop-start.start c.span_at-span.ensures.within (c.span_at-span.ensures.pairs n removed) (c.loop-start.invariant.spans n removed));
     }
 

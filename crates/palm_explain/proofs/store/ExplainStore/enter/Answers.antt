@@ -1,4 +1,4 @@
-use Rattle.std.proofs.Common.{◌≡◌, ◌∙◌, sym, ap, subst}
+use Rattle.std.proofs.Common.{◌∙◌, sym, ap, subst}
 use Rattle.palm_model.specs.Log.{log_pairs}
 use Rattle.palm_explain.specs.Explanations.{AreSpanned, Explanations}
 use Rattle.palm_explain.specs.Rows.{number_at}

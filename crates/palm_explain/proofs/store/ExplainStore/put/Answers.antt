@@ -1,42 +1,48 @@
-use Rattle.std.proofs.Common.{◌≡◌, ◌∙◌, ◌+◌, ◌++◌, ◌∷◌, [], false, not, Contains, length, vec_capacity, refl, sym, ap, subst, arith}
+use Rattle.std.proofs.Common.{◌≡◌, ◌∙◌, ◌+◌, ◌++◌, ◌∷◌, [], false, not, Contains, vec_capacity, refl, sym, ap, subst, arith}
 use Rattle.palm_explain.specs.declared.entry.Entry.{Entry}
 use Rattle.palm_base.proofs.cited.Members.{member_same}
 use Rattle.palm_model.specs.Log.{Removal, log_pairs}
 use Rattle.palm_explain.specs.Entries.{IsWhole, counted, log_of}
 use Rattle.palm_explain.specs.Explanations.{Explanations}
-use Rattle.palm_explain.specs.Rows.{number_at}
-use Rattle.palm_explain.proofs.Reasons.{entry_pair, pair_entry}
+use Rattle.palm_explain.proofs.Reasons.{entry_pair}
+use Rattle.palm_explain.proofs.RowNumbers.{keeps_all}
 use Rattle.palm_explain.proofs.Spanned.{counted_fits, spanned_spans}
 use Rattle.palm_explain.proofs.Stores.{entered_pushed, log_like, log_pushed, on_err, whole_like, whole_pushed}
 use Rattle.palm_explain.proofs.store.ExplainStore.put.Goals as goal
+
+pub note_next-requires-clause-begun : goal.note_next-requires-clause-begun
+note_next-requires-clause-begun c e m =
+    let here = subst (λ es. Contains es e) (c.deref.ensures.value ∙ c.reserve-2.ensures.items) m in
+    let first = c.self.invariant.begun e here in
+    let below = c.self.invariant.entered.below e here in (first.0, first.1, (let le = first.2 in omega (arith, le, below)))
 
 pub invariant_of-self-in_err-reserve-2 : goal.invariant_of-self-in_err-reserve-2
 invariant_of-self-in_err-reserve-2 c =
     let rows = c.self.inside.rows.items in
     subst (λ es. IsWhole es rows c.self.inside.next (vec_capacity c.reserve.new.self) c.self.inside.firsts) (sym c.reserve-2.ensures.items)
-    (whole_like c.self.inside.log.items rows rows c.self.inside.next (vec_capacity c.self.inside.restored) (vec_capacity c.reserve.new.self) c.self.inside.firsts c.self.inside.firsts c.self.invariant c.self.invariant.entered.formed (λ p. refl) c.reserve.ensures.capacity
+    (whole_like c.self.inside.log.items rows rows c.self.inside.next (vec_capacity c.self.inside.restored) (vec_capacity c.reserve.new.self) c.self.inside.firsts c.self.inside.firsts c.self.invariant c.self.invariant.entered.formed (keeps_all rows rows (λ p. refl)) c.reserve.ensures.capacity
     c.self.invariant.formed (λ d k is. (k, is, omega arith)))
 
-pub invariant_of-self-in_err-note : goal.invariant_of-self-in_err-note
-invariant_of-self-in_err-note c =
+pub invariant_of-self-in_err-note_next : goal.invariant_of-self-in_err-note_next
+invariant_of-self-in_err-note_next c =
     let rows = c.self.inside.rows.items in
-    subst (λ es. IsWhole es rows c.self.inside.next (vec_capacity c.reserve.new.self) c.note.new.self) (sym c.reserve-2.ensures.items)
-    (whole_like c.self.inside.log.items rows rows c.self.inside.next (vec_capacity c.self.inside.restored) (vec_capacity c.reserve.new.self) c.self.inside.firsts c.note.new.self c.self.invariant c.self.invariant.entered.formed (λ p. refl) c.reserve.ensures.capacity
-    c.note.ensures.formed c.note.ensures.stays)
+    subst (λ es. IsWhole es rows c.self.inside.next (vec_capacity c.reserve.new.self) c.note_next.new.firsts) (sym c.reserve-2.ensures.items)
+    (whole_like c.self.inside.log.items rows rows c.self.inside.next (vec_capacity c.self.inside.restored) (vec_capacity c.reserve.new.self) c.self.inside.firsts c.note_next.new.firsts c.self.invariant c.self.invariant.entered.formed (keeps_all rows rows (λ p. refl)) c.reserve.ensures.capacity
+    c.note_next.ensures.formed c.note_next.ensures.stays)
 
 pub invariant_of-self-in_err-put_number : goal.invariant_of-self-in_err-put_number
 invariant_of-self-in_err-put_number c =
     let rows = c.self.inside.rows.items in
-    subst (λ es. IsWhole es c.put_number.new.rows.items c.self.inside.next (vec_capacity c.reserve.new.self) c.note.new.self) (sym c.reserve-2.ensures.items)
-    (whole_like c.self.inside.log.items rows c.put_number.new.rows.items c.self.inside.next (vec_capacity c.self.inside.restored) (vec_capacity c.reserve.new.self) c.self.inside.firsts c.note.new.self c.self.invariant c.put_number.ensures.formed c.in_err-put_number.ensures.err c.reserve.ensures.capacity
-    c.note.ensures.formed c.note.ensures.stays)
+    subst (λ es. IsWhole es c.put_number.new.rows.items c.self.inside.next (vec_capacity c.reserve.new.self) c.note_next.new.firsts) (sym c.reserve-2.ensures.items)
+    (whole_like c.self.inside.log.items rows c.put_number.new.rows.items c.self.inside.next (vec_capacity c.self.inside.restored) (vec_capacity c.reserve.new.self) c.self.inside.firsts c.note_next.new.firsts c.self.invariant c.put_number.ensures.formed (keeps_all rows c.put_number.new.rows.items c.in_err-put_number.ensures.err) c.reserve.ensures.capacity
+    c.note_next.ensures.formed c.note_next.ensures.stays)
 
 pub returns-in_err-put_number-clause-err : goal.returns-in_err-put_number-clause-err
 returns-in_err-put_number-clause-err c =
     let rows = c.self.inside.rows.items in
     on_err c.from_residual-in_err-put_number.result _
     (ap (λ es. let v : Explanations = record { log = log_of c.put_number.new.rows.items es; restored = c.reserve.new.self.items } in v) c.reserve-2.ensures.items
-    ∙ ap (λ l. let v : Explanations = record { log = l; restored = c.reserve.new.self.items } in v) (log_like c.self.inside.log.items rows c.put_number.new.rows.items c.self.inside.next c.self.invariant.entered c.put_number.ensures.formed c.in_err-put_number.ensures.err)
+    ∙ ap (λ l. let v : Explanations = record { log = l; restored = c.reserve.new.self.items } in v) (log_like c.self.inside.log.items rows c.put_number.new.rows.items c.self.inside.next c.self.invariant.entered c.put_number.ensures.formed (keeps_all rows c.put_number.new.rows.items c.in_err-put_number.ensures.err))
     ∙ ap (λ rs. let v : Explanations = record { log = log_of rows c.self.inside.log.items; restored = rs } in v) c.reserve.ensures.items ∙ c.self.view_is)
 
 pub invariant_of-self-2 : goal.invariant_of-self-2
@@ -49,10 +55,10 @@ invariant_of-self-2 c =
     let fresh : (f : Entry) → Contains entries f → f.pair ≡ e.pair → ⊥ = λ f m same. (rw (← c.self.view_is) at c.requires.fresh) (member_same (log_pairs (log_of rows entries)) f.pair e.pair same (entry_pair rows entries f m)) in
     let spans = spanned_spans entries rows next c.self.invariant.entered c.args.spans.items reasons (rw (← c.self.view_is) at c.requires.spanned.1) in
     let pushed = c.push_reserved.ensures.items ∙ ap (λ es. es ++ e ∷ []) c.reserve-2.ensures.items in
-    subst (λ es. IsWhole es c.put_number.new.rows.items (next + 1) (vec_capacity c.reserve.new.self) c.note.new.self) (sym pushed)
-    (whole_pushed entries rows c.put_number.new.rows.items next (vec_capacity c.self.inside.restored) (vec_capacity c.reserve.new.self) c.self.inside.firsts c.note.new.self e c.self.invariant
-    (entered_pushed entries rows c.put_number.new.rows.items next e c.self.invariant.entered c.put_number.ensures.formed c.if-number.false refl fresh c.in_ok-put_number.ensures.there c.put_number.ensures.others reasons spans (counted_fits c.count_of.result (counted c.args.spans.items) (rw c.deref.ensures.value at c.count_of.ensures) (c.is_none.ensures ∙ ap not c.if-is_none.false))) refl refl
-    (omega (arith, c.in_ok-reserve.ensures.ok, c.len.ensures)) c.note.ensures.formed c.note.ensures.stays c.in_ok-note.ensures.noted)
+    subst (λ es. IsWhole es c.put_number.new.rows.items (next + 1) (vec_capacity c.reserve.new.self) c.note_next.new.firsts) (sym pushed)
+    (whole_pushed entries rows c.put_number.new.rows.items next (vec_capacity c.self.inside.restored) (vec_capacity c.reserve.new.self) c.self.inside.firsts c.note_next.new.firsts e c.self.invariant
+    (entered_pushed entries rows c.put_number.new.rows.items next e c.self.invariant.entered c.put_number.ensures.formed c.if-number.false refl fresh c.in_ok-put_number.ensures.there c.put_number.ensures.others reasons spans (counted_fits c.count_of.result (counted c.args.spans.items) (rw c.as_slice.ensures at c.count_of.ensures) (c.is_none.ensures ∙ ap not c.if-is_none.false))) refl refl
+    (omega (arith, c.in_ok-reserve.ensures.ok, c.len.ensures)) c.note_next.ensures.formed c.note_next.ensures.stays c.in_ok-note_next.ensures.noted)
 
 pub returns-clause-ok : goal.returns-clause-ok
 returns-clause-ok c reasons spanned =

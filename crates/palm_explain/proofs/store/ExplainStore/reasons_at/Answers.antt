@@ -1,6 +1,6 @@
-use Rattle.std.proofs.Common.{◌≡◌, ◌∙◌, Some, IsSome, refl, length, sym, ap, subst, arith}
+use Rattle.std.proofs.Common.{◌≡◌, ◌∙◌, IsSome, refl, length, sym, ap, subst, arith}
 use Rattle.palm_base.proofs.cited.Members.{member_get}
-use Rattle.palm_explain.specs.Entries.{counted, written}
+use Rattle.palm_explain.specs.Entries.{counted}
 use Rattle.palm_explain.specs.Explanations.{Explanations, reasons_of}
 use Rattle.palm_explain.proofs.Reasons.{some_same}
 use Rattle.palm_explain.proofs.Spanned.{counted_some, written_count}
@@ -16,7 +16,7 @@ unwrap-requires c =
     let long = log_length rows entries in
     let at = entry_read entries c.args.place e (omega (arith, within, long)) c.index.ensures in
     let counts = c.self.invariant.entered.counted e (member_get entries c.args.place e at) in
-    subst IsSome (sym (counted_some c.count_of.result (counted e.spans.items) (rw c.deref.ensures.value at c.count_of.ensures) counts.fits)) refl
+    subst IsSome (sym (counted_some c.count_of.result (counted e.spans.items) (rw c.as_slice.ensures at c.count_of.ensures) counts.fits)) refl
 
 pub returns : goal.returns
 returns c =
@@ -27,6 +27,6 @@ returns c =
     let long = log_length rows entries in
     let at = entry_read entries c.args.place e (omega (arith, within, long)) c.index.ensures in
     let counts = c.self.invariant.entered.counted e (member_get entries c.args.place e at) in
-    let some = counted_some c.count_of.result (counted e.spans.items) (rw c.deref.ensures.value at c.count_of.ensures) counts.fits in
+    let some = counted_some c.count_of.result (counted e.spans.items) (rw c.as_slice.ensures at c.count_of.ensures) counts.fits in
     subst (λ (v : Explanations). c.unwrap.result ≡ length (reasons_of v.log c.args.place)) c.self.view_is
     (some_same c.unwrap.result (counted e.spans.items) (sym c.unwrap.ensures ∙ some) ∙ sym (written_count rows e.number e.spans.items counts.spans) ∙ ap length (sym (reasons_read rows entries c.args.place e at)))
