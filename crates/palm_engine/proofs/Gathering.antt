@@ -1,25 +1,26 @@
 -- Conflicts and flat conflicts, gathered from one value or one id after another.
-use Rattle.std.proofs.Common.{◌≡◌, ℕ, ◌+◌, ◌<◌, ◌≤◌, List, [], ◌∷◌, ◌++◌, length, get_or, take, drop, All, Contains, Some, ℤ, ◌⊎◌, inl, inr, sym, ap, ◌∙◌, subst}
-use Rattle.std.proofs.lemmas.List.{take_more, take_all, take-append-drop}
-use Rattle.std.proofs.lemmas.List.Elements.{All-contains, Contains-append_left, Contains-append_right, Contains-append_cases, Contains-push, Contains-push_cases}
+use Rattle.std.proofs.Common.{◌↔◌, Bool, true, false, ◌≡◌, ℕ, ◌+◌, ◌<◌, ◌≤◌, List, [], ◌∷◌, ◌++◌, length, get_or, take, Contains, Some, ℤ, ◌⊎◌, inl, inr, sym, ap, ◌∙◌, subst}
+use Rattle.std.proofs.lemmas.List.{take_more, take_all}
+use Rattle.std.proofs.lemmas.List.Elements.{Contains-append_left, Contains-push, Contains-push_cases}
+use Rattle.std.proofs.lemmas.Bool.{cases_Bool}
+use Rattle.palm_base.specs.Tells.{Tells}
 use Rattle.palm_base.specs.declared.terms.Pair.{Pair}
 use Rattle.palm_base.specs.declared.terms.Cid.{Cid}
 use Rattle.palm_base.specs.declared.terms.Cid.TheVariants.{Not}
-use Rattle.palm_base.proofs.cited.Members.{member_nil, member_here, member_same, member_single}
+use Rattle.palm_base.proofs.cited.Members.{member_nil, member_same}
 use Rattle.palm_domain.specs.Rows.{initial_of, present_of, declared_values}
 use Rattle.palm_model.specs.Conflict.{InFlat, IsKeptConflict}
 use Rattle.palm_model.specs.Conflict.InFlat.{as_it_is, in_place}
 use Rattle.palm_model.specs.Domains.{Has}
 use Rattle.palm_base.specs.Order.{Rises}
-use Rattle.palm_model.specs.Log.{Active, IsListOf, cids_of, log_pairs}
+use Rattle.palm_model.specs.Log.{Active, IsListOf, cids_of, is_named, log_pairs}
 use Rattle.palm_model.specs.State.{IsEmptyAt, IsJustifier, present}
 use Rattle.palm_model.proofs.cited.Without.{pair_of}
 use Rattle.palm_events.proofs.cited.Agreeing.{gone_member}
-use Rattle.palm_events.proofs.cited.Names.{single}
+use Rattle.palm_events.proofs.cited.Names.{member_named, named_member, single}
+use Rattle.palm_explain.specs.CidSets.{IsJoined}
 use Rattle.palm_explain.specs.Explanations.{LacksExactly, NamesOfSome}
-use Rattle.palm_explain.specs.Merging.{IsMerged}
 use Rattle.palm_engine.specs.declared.filtering.Filtering.{Filtering}
-use Rattle.palm_engine.specs.Gathered.{Gathers}
 use Rattle.palm_engine.specs.Kept.{IsEmptyKept, IsInStep, state_of}
 
 -- the empty list, where nothing has the property
@@ -68,13 +69,8 @@ kept_conflict f active var x cids kept known is conflict =
 
 -- ---- flat conflicts
 
-pub flat_none : (active : List Active) (from cids : List Cid) → Rises cids → Gathers (InFlat active (Contains (take 0 from))) cids cids
-flat_none active from cids rises = record {
-  rising = rises;
-  sound = λ c m. inl m;
-  first = λ c m. m;
-  second = λ c flat. absurd (none c flat);
-}
+pub flat_none : (active : List Active) (from : List Cid) (S : Cid → Type 0) → IsJoined S (InFlat active (Contains (take 0 from))) S
+flat_none active from S = record { sound = λ c m. inl m; first = λ c m. m; second = λ c flat. absurd (none c flat) }
   where
     none : (c : Cid) → InFlat active (Contains (take 0 from)) c → ⊥
     none c (as_it_is k justifier) = member_nil c k
@@ -89,10 +85,9 @@ flat_either active K L M split c (as_it_is k justifier) = elim (split c k) [ inl
 flat_either active K L M split c (in_place p a k m n held) = elim (split (Not p) k) [ inl l ↦ inl (in_place p a l m n held) | inr o ↦ inr (in_place p a o m n held) ]
 
 -- ids in two parts
-pub flat_both : (active : List Active) (K L M : Cid → Type 0) (cids some all : List Cid) → ((c : Cid) → K c → M c) → ((c : Cid) → L c → M c) → ((c : Cid) → M c → K c ⊎ L c)
-    → Gathers (InFlat active K) cids some → Gathers (InFlat active L) some all → Gathers (InFlat active M) cids all
-flat_both active K L M cids some all left right split one other = record {
-  rising = other.rising;
+pub flat_both : (active : List Active) (K L M S T U : Cid → Type 0) → ((c : Cid) → K c → M c) → ((c : Cid) → L c → M c) → ((c : Cid) → M c → K c ⊎ L c)
+    → IsJoined S (InFlat active K) T → IsJoined T (InFlat active L) U → IsJoined S (InFlat active M) U
+flat_both active K L M S T U left right split one other = record {
   sound = λ c m. elim (other.sound c m) [
     | inl k ↦ elim (one.sound c k) [ inl n ↦ inl n | inr f ↦ inr (flat_weaker active K M left c f) ]
     | inr f ↦ inr (flat_weaker active L M right c f)
@@ -104,59 +99,34 @@ flat_both active K L M cids some all left right split one other = record {
   ];
 }
 
-pub flat_more : (active : List Active) (from : List Cid) (i : ℕ) (cid : Cid) (cids some gathered : List Cid) → i < length from → cid ≡ get_or from i cid
-    → Gathers (InFlat active (Contains (take i from))) cids some → Gathers (InFlat active (λ d. d ≡ cid)) some gathered → Gathers (InFlat active (Contains (take (i + 1) from))) cids gathered
-flat_more active from i cid cids some gathered lt at =
-    flat_both active (Contains (take i from)) (λ d. d ≡ cid) (Contains (take (i + 1) from)) cids some gathered
+pub flat_more : (active : List Active) (from : List Cid) (i : ℕ) (cid : Cid) (S T U : Cid → Type 0) → i < length from → cid ≡ get_or from i cid
+    → IsJoined S (InFlat active (Contains (take i from))) T → IsJoined T (InFlat active (λ d. d ≡ cid)) U → IsJoined S (InFlat active (Contains (take (i + 1) from))) U
+flat_more active from i cid S T U lt at =
+    flat_both active (Contains (take i from)) (λ d. d ≡ cid) (Contains (take (i + 1) from)) S T U
     (more_left from i cid lt at) (λ d e. member_same (take (i + 1) from) cid d (sym e) (more_last from i cid lt at))
     (λ d m. elim (more_cases from i cid lt at d m) [ inl k ↦ inl k | inr e ↦ inr (sym e) ])
 
-pub flat_all : (active : List Active) (from : List Cid) (i : ℕ) (cids gathered : List Cid) → length from ≤ i → Gathers (InFlat active (Contains (take i from))) cids gathered → Gathers (InFlat active (Contains from)) cids gathered
-flat_all active from i cids gathered le = subst (λ ns. Gathers (InFlat active (Contains ns)) cids gathered) (take_all i from le)
+pub flat_all : (active : List Active) (from : List Cid) (i : ℕ) (S T : Cid → Type 0) → length from ≤ i → IsJoined S (InFlat active (Contains (take i from))) T → IsJoined S (InFlat active (Contains from)) T
+flat_all active from i S T le = subst (λ ns. IsJoined S (InFlat active (Contains ns)) T) (take_all i from le)
 
--- a list is its front and its back
-pub split_parts : (xs front back : List Cid) (n : ℕ) → front ≡ take n xs → back ≡ drop n xs → xs ≡ front ++ back
-split_parts xs front back n a b = sym (ap (λ ys. ys ++ back) a ∙ ap (λ ys. take n xs ++ ys) b ∙ take-append-drop n xs)
-
--- all ids, where the last ones stand for themselves, gathered from nothing
-pub flat_parts : (active : List Active) (from first last nothing some all : List Cid) → from ≡ first ++ last → nothing ≡ [] → All IsJustifier last
-    → Gathers (InFlat active (Contains first)) nothing some → IsMerged some last all → IsListOf (InFlat active (Contains from)) all
-flat_parts active from first last nothing some all parts none justifiers one merged = record {
-  rising = merged.rising;
-  sound = λ c m. elim (merged.sound c m) [
-    | inl k ↦ elim (one.sound c k) [
-      | inl n ↦ absurd (member_nil c (subst (λ ns. Contains ns c) none n))
-      | inr f ↦ flat_weaker active (Contains first) (Contains from) in_first c f
-    ]
-    | inr k ↦ as_it_is (in_last c k) (All-contains IsJustifier last c justifiers k)
-  ];
-  whole = λ c flat. elim (flat_either active (Contains from) (Contains first) (Contains last) (λ d m. Contains-append_cases first last d (subst (λ ns. Contains ns d) parts m)) c flat) [
-    | inl f ↦ merged.first c (one.second c f)
-    | inr f ↦ merged.second c (itself c f)
-  ];
+-- the list of what stands for all ids, gathered from nothing
+pub flat_listed : (active : List Active) (from : List Cid) (S T : Cid → Type 0) (cids : List Cid) → ((c : Cid) → S c → ⊥) → IsJoined S (InFlat active (Contains from)) T → IsListOf T cids → IsListOf (InFlat active (Contains from)) cids
+flat_listed active from S T cids none joined listed = record {
+  rising = listed.rising;
+  sound = λ c m. elim (joined.sound c (listed.sound c m)) [ inl s ↦ absurd (none c s) | inr f ↦ f ];
+  whole = λ c f. listed.whole c (joined.second c f);
 }
-  where
-    in_first : (d : Cid) → Contains first d → Contains from d
-    in_first d f = subst (λ ns. Contains ns d) (sym parts) (Contains-append_left first last d f)
-
-    in_last : (d : Cid) → Contains last d → Contains from d
-    in_last d l = subst (λ ns. Contains ns d) (sym parts) (Contains-append_right first last d l)
-
-    itself : (c : Cid) → InFlat active (Contains last) c → Contains last c
-    itself c (as_it_is k g) = k
-    itself c (in_place p a k m n held) = absurd (All-contains IsJustifier last (Not p) justifiers k)
 
 -- a negation stands for its justification
-pub flat_negation : (active : List Active) (cid : Cid) (p : Pair) (a : Active) (cids justification gathered : List Cid) → Rises (cids_of active) → cid ≡ Not p → Contains active a → a.cid ≡ cid → justification ≡ a.justification
-    → IsMerged cids justification gathered → Gathers (InFlat active (λ d. d ≡ cid)) cids gathered
-flat_negation active cid p a cids justification gathered rises is posted named told merged = record {
-  rising = merged.rising;
-  sound = λ c m. elim (merged.sound c m) [
+pub flat_negation : (active : List Active) (cid : Cid) (p : Pair) (a : Active) (justification : List Cid) (S T : Cid → Type 0) → Rises (cids_of active) → cid ≡ Not p → Contains active a → a.cid ≡ cid → justification ≡ a.justification
+    → IsJoined S (Contains justification) T → IsJoined S (InFlat active (λ d. d ≡ cid)) T
+flat_negation active cid p a justification S T rises is posted named told joined = record {
+  sound = λ c m. elim (joined.sound c m) [
     | inl k ↦ inl k
     | inr k ↦ inr (in_place p a (sym is) posted (named ∙ is) (subst (λ ns. Contains ns c) told k))
   ];
-  first = merged.first;
-  second = λ c flat. merged.second c (held c flat);
+  first = joined.first;
+  second = λ c flat. joined.second c (held c flat);
 }
   where
     held : (c : Cid) → InFlat active (λ d. d ≡ cid) c → Contains justification c
@@ -164,17 +134,23 @@ flat_negation active cid p a cids justification gathered rises is posted named t
     held c (in_place q b e m n k) = subst (λ ns. Contains ns c) (sym told) (subst (λ (z : Active). Contains z.justification c) (single active rises b a m posted (n ∙ e ∙ sym named)) k)
 
 -- any other id stands for itself
-pub flat_justifier : (active : List Active) (cid : Cid) (cids more gathered : List Cid) → IsJustifier cid → more ≡ cid ∷ [] → IsMerged cids more gathered → Gathers (InFlat active (λ d. d ≡ cid)) cids gathered
-flat_justifier active cid cids more gathered justifier told merged = record {
-  rising = merged.rising;
-  sound = λ c m. elim (merged.sound c m) [
-    | inl k ↦ inl k
-    | inr k ↦ let e = member_single cid c (subst (λ ns. Contains ns c) told k) in inr (as_it_is (sym e) (subst IsJustifier e justifier))
-  ];
-  first = merged.first;
-  second = λ c flat. merged.second c (itself c flat);
+pub flat_justifier : (active : List Active) (cid : Cid) (S T : Cid → Type 0) → IsJustifier cid → IsJoined S (λ d. d ≡ cid) T → IsJoined S (InFlat active (λ d. d ≡ cid)) T
+flat_justifier active cid S T justifier joined = record {
+  sound = λ c m. elim (joined.sound c m) [ inl k ↦ inl k | inr e ↦ inr (as_it_is e (subst IsJustifier (sym e) justifier)) ];
+  first = joined.first;
+  second = λ c flat. joined.second c (itself c flat);
 }
   where
-    itself : (c : Cid) → InFlat active (λ d. d ≡ cid) c → Contains more c
-    itself c (as_it_is e g) = subst (λ ns. Contains ns c) (sym told) (member_same (cid ∷ []) cid c (sym e) (member_here cid []))
+    itself : (c : Cid) → InFlat active (λ d. d ≡ cid) c → c ≡ cid
+    itself c (as_it_is e g) = e
     itself c (in_place q b e m n k) = absurd (subst IsJustifier (sym e) justifier)
+
+-- ---- justifications
+
+-- whether an id is among them
+pub names_told : (cids : List Cid) (cid : Cid) (b : Bool) (P : Type 0) → P ↔ Contains cids cid → Tells b P → b ≡ is_named cids cid
+names_told cids cid true P same told = sym (member_named cids cid (same.0 told))
+names_told cids cid false P same told = elim (cases_Bool (is_named cids cid)) [
+  | inl t ↦ absurd (told (same.1 (named_member cids cid t)))
+  | inr f ↦ sym f
+]

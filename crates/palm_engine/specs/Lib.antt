@@ -2,7 +2,6 @@ pub mod Advancing
 pub mod Changed
 pub mod Engine
 pub mod Following
-pub mod Gathered
 pub mod Kept
 pub mod Posted
 pub mod Reasons

@@ -1,20 +1,20 @@
 //! The constraints of a conflict.
-ghost use Rattle.std.specs.Prelude.{◌≡◌, ◌≤◌, false, [], List, length, drop, All, Contains, IfOk, OnErr, OnOk};
+ghost use Rattle.std.specs.Prelude.{◌≡◌, [], List, Contains, IfOk, OnErr, OnOk};
 ghost use Rattle.palm_base.specs.declared.terms.Cid.{Cid as CidTerm};
 ghost use Rattle.palm_domain.specs.Rows.{present_of};
 ghost use Rattle.palm_model.specs.Conflict.{InFlat, IsKeptConflict};
 ghost use Rattle.palm_base.specs.Order.{Rises};
 ghost use Rattle.palm_model.specs.Log.{Active, IsActive, IsListOf, cids_of, log_pairs};
-ghost use Rattle.palm_model.specs.State.{IsEmptyAt, IsJustifier};
+ghost use Rattle.palm_model.specs.State.{IsEmptyAt};
+ghost use Rattle.palm_explain.specs.CidSets.{IsJoined, IsMember};
 ghost use Rattle.palm_explain.specs.Explanations.{LacksExactly};
-ghost use Rattle.palm_engine.specs.Gathered.{Gathers};
 ghost use Rattle.palm_engine.specs.Kept.{state_of};
 ghost use Rattle.palm_engine.specs.Posted.{actives_of};
 
 use crate::filtering::Filtering;
 use crate::posted::{Posted, place_of};
 use palm_base::{Cid, CidList, NoMemory, Var};
-use palm_explain::add_cids;
+use palm_explain::CidSet;
 use palm_filter::Filter;
 use std::alloc::Global;
 
@@ -35,15 +35,14 @@ pub(crate) fn conflict_of(
 }
 
 /// Adds the justifiers of a negation, or the id itself of another constraint.
-fn add_flat<F: Filter>(posted: &[Posted<F>], cid: &Cid, cids: &mut Vec<Cid>) -> Result<(), NoMemory>
+fn add_flat<F: Filter>(posted: &[Posted<F>], cid: &Cid, cids: &mut CidSet) -> Result<(), NoMemory>
     requires rising { Rises (cids_of (actives_of F.meaning posted.now)) }
     requires active { IsActive (actives_of F.meaning posted.now) cid.now }
-    requires cids { Rises cids.old.items }
-    ensures { OnOk result (Gathers (InFlat (actives_of F.meaning posted.now) (λ c. c ≡ cid.now)) cids.old.items cids.new.items) }
+    ensures { OnOk result (IsJoined (IsMember cids.old) (InFlat (actives_of F.meaning posted.now) (λ c. c ≡ cid.now)) (IsMember cids.new)) }
 {
     match cid {
-        Cid::Not(_) => add_cids(cids, posted[place_of(posted, cid)].justification()),
-        Cid::Decide(_) | Cid::User(_) => add_cids(cids, &[*cid]),
+        Cid::Not(_) => posted[place_of(posted, cid)].add_justification(cids),
+        Cid::Decide(_) | Cid::User(_) => cids.add(cid),
     }
 }
 
@@ -51,12 +50,11 @@ fn add_flat<F: Filter>(posted: &[Posted<F>], cid: &Cid, cids: &mut Vec<Cid>) -> 
 fn add_flat_each<F: Filter>(
     posted: &[Posted<F>],
     from: &[Cid],
-    cids: &mut Vec<Cid>,
+    cids: &mut CidSet,
 ) -> Result<(), NoMemory>
     requires rising { Rises (cids_of (actives_of F.meaning posted.now)) }
     requires active { (c : CidTerm) → Contains from.now c → IsActive (actives_of F.meaning posted.now) c }
-    requires cids { Rises cids.old.items }
-    ensures { OnOk result (Gathers (InFlat (actives_of F.meaning posted.now) (Contains from.now)) cids.old.items cids.new.items) }
+    ensures { OnOk result (IsJoined (IsMember cids.old) (InFlat (actives_of F.meaning posted.now) (Contains from.now)) (IsMember cids.new)) }
 {
     for cid in from {
         add_flat(posted, cid, cids)?;
@@ -64,30 +62,7 @@ fn add_flat_each<F: Filter>(
     Ok(())
 }
 
-/// Whether the id is that of a negation.
-fn is_negation(cid: &Cid) -> bool
-    ensures { result ≡ false → IsJustifier cid.now }
-{
-    match cid {
-        Cid::Not(_) => true,
-        Cid::Decide(_) | Cid::User(_) => false,
-    }
-}
-
-/// A place from which on no id is that of a negation.
-fn last_part(from: &[Cid]) -> usize
-    ensures within { result ≤ length from.now }
-    ensures justifiers { All IsJustifier (drop result from.now) }
-{
-    let mut place = from.len();
-    while place > 0 && !is_negation(&from[place - 1]) {
-        place -= 1;
-    }
-    place
-}
-
-/// The ids with each negation replaced by its justification, by rising id. The last ids, mostly those of users, are put
-/// in together.
+/// The ids with each negation replaced by its justification, by rising id.
 pub(crate) fn flat_of<F: Filter>(
     alloc: Global,
     posted: &[Posted<F>],
@@ -97,9 +72,8 @@ pub(crate) fn flat_of<F: Filter>(
     requires active { (c : CidTerm) → Contains from.now c → IsActive (actives_of F.meaning posted.now) c }
     ensures { IfOk result (IsListOf (InFlat (actives_of F.meaning posted.now) (Contains from.now))) }
 {
-    let (first, last) = from.split_at(last_part(from));
-    let mut cids = Vec::new(alloc);
-    add_flat_each(posted, first, &mut cids)?;
-    add_cids(&mut cids, last)?;
-    Ok(CidList::from_vec(cids))
+    let mut cids = CidSet::new(alloc);
+    add_flat_each(posted, from, &mut cids)?;
+    let list = cids.list(alloc)?;
+    Ok(CidList::from_vec(list))
 }

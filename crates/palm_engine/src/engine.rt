@@ -20,6 +20,7 @@ ghost use Rattle.palm_engine.specs.Posted.{active_of};
 
 use crate::conflicts::{conflict_of, flat_of};
 use crate::filtering::Filtering;
+use crate::justification::Justification;
 use crate::posted::{Posted, decisions_of, place_of};
 use crate::posting::{insert, take_out, take_out_resting};
 use crate::reasons::ReasonRoom;
@@ -78,6 +79,8 @@ impl<F: Filter> Engine<F> {
         ensures err { OnErr result (self.new ≡ self.old) }
         ensures valid { IsValid self.new.state }
     {
+        let var = Var(self.filtering.store.variables());
+        self.filtering.log.declare(var, values)?;
         self.filtering.store.add_variable(values)
     }
 
@@ -115,7 +118,7 @@ impl<F: Filter> Engine<F> {
         ensures err { OnErr result (self.new ≡ self.old) }
         ensures valid { IsValid self.new.state }
     {
-        let justification = CidList::from_slice(*self.posted.allocator(), because)?;
+        let justification = Justification::new(*self.posted.allocator(), because)?;
         self.activate(Posted::Negation {
             pair,
             justification,

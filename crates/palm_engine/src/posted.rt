@@ -9,16 +9,18 @@ ghost use Rattle.palm_model.specs.Log.{Active, cids_of, is_named};
 ghost use Rattle.palm_model.specs.Reason.{AreFilled, reason};
 ghost use Rattle.palm_model.specs.State.{user_of};
 ghost use Rattle.palm_model.specs.Support.{IsSupported, LacksSupport};
+ghost use Rattle.palm_explain.specs.CidSets.{IsJoined, IsMember};
 ghost use Rattle.palm_filter.specs.Heeds.{FitsHeed};
 ghost use Rattle.palm_filter.specs.Shapes.{FitsShape};
 ghost use Rattle.palm_engine.specs.Posted.{IsInForm, active_of, actives_of, is_decision, is_negation, negated};
 ghost use Rattle.palm_engine.specs.Reasons.{IsToldBy};
 ghost use Rattle.palm_engine.specs.Work.{asks_of};
 
+use crate::justification::Justification;
 use crate::reasons::spans_by_rule;
-use palm_base::{Cid, CidList, HasCid, NoMemory, Pair, Steps, Var};
+use palm_base::{Cid, HasCid, NoMemory, Pair, Steps, Var};
 use palm_domain::DomainStore;
-use palm_explain::Span;
+use palm_explain::{CidSet, Span};
 use palm_filter::{Filter, Heed, Intervals, Reasons, Shape, ask};
 use std::array;
 use std::sync::ledger::Ledger;
@@ -29,9 +31,15 @@ pub(crate) enum Posted<F> {
     /// The variable has the value.
     Decision(Pair),
     /// The variable does not have the value, for these constraints.
-    Negation { pair: Pair, justification: CidList },
+    Negation {
+        pair: Pair,
+        justification: Justification,
+    },
     /// The constraint of a user.
-    User { number: u32, filter: F },
+    User {
+        number: u32,
+        filter: F,
+    },
 }
 
 impl<F: Filter> HasCid for Posted<F> {
@@ -87,13 +95,13 @@ impl<F: Filter> Posted<F> {
         }
     }
 
-    /// The ids for which a negation holds, and none of other constraints.
-    pub(crate) fn justification(&self) -> &[Cid]
-        ensures { result.now ≡ (active_of F.meaning self.now).justification }
+    /// Adds the ids for which a negation holds, and none of other constraints.
+    pub(crate) fn add_justification(&self, cids: &mut CidSet) -> Result<(), NoMemory>
+        ensures { OnOk result (IsJoined (IsMember cids.old) (Contains (active_of F.meaning self.now).justification) (IsMember cids.new)) }
     {
         match self {
-            Posted::Negation { justification, .. } => justification.as_slice(),
-            Posted::Decision(_) | Posted::User { .. } => &[],
+            Posted::Negation { justification, .. } => justification.add_to(cids),
+            Posted::Decision(_) | Posted::User { .. } => Ok(()),
         }
     }
 
@@ -140,7 +148,10 @@ impl<F: Filter> Posted<F> {
     pub(crate) fn rests_on(&self, cid: &Cid) -> bool
         ensures { result ≡ is_named (active_of F.meaning self.now).justification cid.now }
     {
-        self.justification().iter().any(|name| name.is_same(cid))
+        match self {
+            Posted::Negation { justification, .. } => justification.has(cid),
+            Posted::Decision(_) | Posted::User { .. } => false,
+        }
     }
 
     /// Whether the value has support in every part over its variable. A user's filter is asked, which counts one

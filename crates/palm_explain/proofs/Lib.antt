@@ -1,4 +1,5 @@
 pub mod cited
+mod CidSets
 mod ClosingUp
 mod FirstNumbers
 mod Keeping

@@ -20,7 +20,7 @@ use Rattle.palm_explain.specs.Entries.{AreEntered, log_of, pairs_with, removal_o
 use Rattle.palm_explain.specs.Explanations.{NamesOfSome}
 use Rattle.palm_explain.specs.Needed.{AreMakers, AreNeeded, Climbs, Falls, HasNoted, IsNeeded, IsNeededAt, IsWalked}
 use Rattle.palm_explain.specs.Needed.IsNeeded.{is_claimed, is_reason}
-use Rattle.palm_explain.specs.Merging.{IsMerged}
+use Rattle.palm_explain.specs.CidSets.{IsJoined}
 use Rattle.palm_explain.specs.Places.{HasPlace, IsLastBelow}
 use Rattle.palm_explain.specs.Rows.{HasNumber, number_at, number_in, rest_in, row_number, span_in}
 use Rattle.palm_explain.proofs.NamedSome.{listed_like}
@@ -293,44 +293,41 @@ module _ (log : List Removal) (x : ℕ) (values : List ℤ) where
       named_needed cid n.removal n.names n.logged (is_claimed n.removal.pair (member_same (pairs_with x values) (record { var = x; value = some.value }) n.removal.pair (sym n.is) claimed))
 
 -- one more of the removals is looked at
-pub makers_more : (log : List Removal) (places : List ℕ) (place : ℕ) (r : Removal) (cids more : List Cid) → slice_get log place ≡ Some r → AreMakers log places cids → IsMerged cids (r.by ∷ []) more → AreMakers log (places ++ place ∷ []) more
-makers_more log places place r cids more there are merged = record {
-  rising = merged.rising;
-  sound = λ c m. elim (merged.sound c m) [
+pub makers_more : (log : List Removal) (places : List ℕ) (place : ℕ) (r : Removal) (ids more : Cid → Type 0) → slice_get log place ≡ Some r → AreMakers log places ids → IsJoined ids (λ c. c ≡ r.by) more → AreMakers log (places ++ place ∷ []) more
+makers_more log places place r ids more there are joined = record {
+  sound = λ c m. elim (joined.sound c m) [
     | inl o ↦ let s = are.sound c o in (s.0, s.1, Contains-append_left places (place ∷ []) s.0 s.2, s.3, s.4)
-    | inr n ↦ (place, r, Contains-push places place, there, member_single r.by c n)
+    | inr e ↦ (place, r, Contains-push places place, there, sym e)
   ];
   whole = λ q s m here. elim (Contains-push_cases places place q m) [
-    | inl o ↦ merged.first s.by (are.whole q s o here)
+    | inl o ↦ joined.first s.by (are.whole q s o here)
     | inr e ↦
-        let same : r ≡ s = some_same r s (sym there ∙ ap (λ k. slice_get log k) e ∙ here) in
-        merged.second s.by (member_same (r.by ∷ []) r.by s.by (ap (λ (z : Removal). z.by) same) (member_here r.by []))
+        let same : r ≡ s = some_same r s (sym there ∙ ap (λ k. slice_get log k) e ∙ here) in joined.second s.by (sym (ap (λ (z : Removal). z.by) same))
   ];
 }
 
 -- the walk has come down to the end, with the constraints of what it passed
-pub record IsWalkedBy (entries : List Entry) (rows : List Row) (pairs : List Pair) (noted : List PlaceWord) (end : ℕ) (cids : List Cid) : Type 0 where
+pub record IsWalkedBy (entries : List Entry) (rows : List Row) (pairs : List Pair) (noted : List PlaceWord) (end : ℕ) (ids : Cid → Type 0) : Type 0 where
   pub visited : List ℕ
   pub walked : IsWalked entries rows pairs noted end visited
-  pub made : AreMakers (log_of rows entries) visited cids
+  pub made : AreMakers (log_of rows entries) visited ids
 
-pub makers_none : (log : List Removal) → AreMakers log [] []
-makers_none log = record { rising = tt; sound = λ c m. absurd (member_nil c m); whole = λ p r m here. absurd (member_nil p m) }
+pub makers_none : (log : List Removal) (ids : Cid → Type 0) → ((c : Cid) → ids c → ⊥) → AreMakers log [] ids
+makers_none log ids none = record { sound = λ c m. absurd (none c m); whole = λ p r m here. absurd (member_nil p m) }
 
 -- the makers of what the values need are the constraints of their explanations
-pub makers_explain : (log : List Removal) (x : ℕ) (values : List ℤ) (places : List ℕ) (cids : List Cid) → ((place : ℕ) → Contains places place ↔ IsNeededAt log (pairs_with x values) place) → AreMakers log places cids → IsListOf (NamesOfSome log x values) cids
-makers_explain log x values places cids each are = record {
-  rising = are.rising;
-  sound = λ c m.
-      let s = are.sound c m in
-      let needed = (each s.0).0 s.2 in
-      let same : needed.0 ≡ s.1 = some_same needed.0 s.1 (sym needed.1 ∙ s.3) in
-      subst (NamesOfSome log x values) s.4 (by_explains log x values s.1 (member_get log s.0 s.1 s.3) (subst (λ (z : Removal). IsNeeded log (pairs_with x values) z.pair) same needed.2));
-  whole = λ c some.
-      let t = explains_by log x values c some in
-      let p = member_place log t.0 t.1 in
-      subst (λ (z : Cid). Contains cids z) t.3 (are.whole p.0 t.0 ((each p.0).1 (t.0, p.1, t.2)) p.1);
-}
+pub makers_explain : (log : List Removal) (x : ℕ) (values : List ℤ) (places : List ℕ) (ids : Cid → Type 0) (cids : List Cid) → ((place : ℕ) → Contains places place ↔ IsNeededAt log (pairs_with x values) place) → AreMakers log places ids
+    → IsListOf ids cids → IsListOf (NamesOfSome log x values) cids
+makers_explain log x values places ids cids each are = listed_like ids (NamesOfSome log x values) cids
+    (λ c m.
+    let s = are.sound c m in
+    let needed = (each s.0).0 s.2 in
+    let same : needed.0 ≡ s.1 = some_same needed.0 s.1 (sym needed.1 ∙ s.3) in
+    subst (NamesOfSome log x values) s.4 (by_explains log x values s.1 (member_get log s.0 s.1 s.3) (subst (λ (z : Removal). IsNeeded log (pairs_with x values) z.pair) same needed.2)))
+    (λ c some.
+    let t = explains_by log x values c some in
+    let p = member_place log t.0 t.1 in
+    subst ids t.3 (are.whole p.0 t.0 ((each p.0).1 (t.0, p.1, t.2)) p.1))
 
 -- one value of a variable is a pair
 pub one_value : (log : List Removal) (p : Pair) (cids : List Cid) → IsListOf (NamesOfSome log p.var (p.value ∷ [])) cids → IsListOf (NamesOfPair log p) cids

@@ -1,15 +1,19 @@
 -- Sets of places by words of 64: bits of a word, and what a new place and a search for the last one make of the words.
-use Rattle.std.proofs.Common.{◌≡◌, ◌≢◌, ℕ, suc, ◌+◌, ◌-◌, ◌*◌, ◌/◌, ◌%◌, ◌^◌, ◌<◌, ◌≤◌, List, length, get_or, set, insert, Contains, bit_or, nat_lt, nat_le, ◌⊎◌, inl, inr, refl, sym, ap, ◌∙◌, subst, arith, length-set, get_or-set_same, get_or-set_other, pow_pos, div-lt_iff_lt-mul, le-div_iff_mul-le}
+use Rattle.std.proofs.Common.{◌≡◌, ℕ, suc, [], ◌∷◌, ◌++◌, take, ◌+◌, ◌-◌, ◌*◌, ◌/◌, ◌%◌, ◌^◌, ◌<◌, ◌≤◌, List, length, get_or, set, insert, Contains, bit_or, nat_lt, nat_le, Bool, false, ◌⊎◌, inl, inr, refl, sym, ap, ◌∙◌, subst, arith, length-set, get_or-set_same, get_or-set_other, pow_pos, div-lt_iff_lt-mul, le-div_iff_mul-le}
 use Rattle.std.specs.Int.{bit_at}
 use Rattle.std.specs.List.Sorted.{IsPartitionedBy}
 use Rattle.std.proofs.Math.Nat.{two-pow-succ}
-use Rattle.std.proofs.lemmas.Bool.{cases_eq, cases_lt, ltb-true, ltb-false, leb-true, lt-ltb, le-ltb, le-leb, lt-leb}
-use Rattle.std.proofs.lemmas.List.{get_or_default}
+use Rattle.std.proofs.lemmas.Bool.{false≢true, cases_eq, cases_lt, ltb-true, ltb-false, leb-true, lt-ltb, le-ltb, le-leb, lt-leb}
+use Rattle.std.proofs.lemmas.List.{get_or_default, take_more}
+use Rattle.std.proofs.lemmas.List.Elements.{Contains-append_left, Contains-push, Contains-push_cases}
 use Rattle.std.proofs.lemmas.List.Edits.{length-insert, get_or-insert_below, get_or-insert_at, get_or-insert_above}
-use Rattle.std.proofs.lemmas.Nat.Bits.{bit_at_or, bit_at_above, bit_at-pow_same, bit_at-pow_other, bit_at-zero}
+use Rattle.std.proofs.lemmas.Nat.Bits.{bit_at_or, bit_at_above, bit_at-pow_same, bit_at-pow_other, bit_at-zero, bit_at-lt}
 use Rattle.palm_base.specs.Order.{IsPartedAt}
+use Rattle.palm_base.specs.Tells.{Tells}
+use Rattle.palm_base.proofs.cited.Members.{member_nil, member_take}
+use Rattle.palm_base.proofs.cited.Telling.{tells_both, tells_false, tells_same}
 use Rattle.palm_explain.specs.declared.places.PlaceWord.{PlaceWord}
-use Rattle.palm_explain.specs.Places.{ArePlaceWords, BeginsBelow, HasPlace, IsIn, IsLastBelow, IsLastIn, IsSearched, with_bit}
+use Rattle.palm_explain.specs.Places.{ArePlaceWords, BeginsBelow, HasPlace, IsIn, IsLastBelow, IsLastIn, IsSearched, with_bits}
 
 -- ---- the bits of a word
 
@@ -23,12 +27,18 @@ top_bit n top low high =
       λ k l. bit_at_above n (suc top) k (omega (arith, high, two-pow-succ top)) l,
     )
 
--- a new one, and the others
-bit_here : (n b k : ℕ) → k ≡ b → bit_at (bit_or n (2 ^ b)) k ≡ 1
-bit_here n b k e = subst (λ j. bit_at (bit_or n (2 ^ b)) j ≡ 1) (sym e) (omega (arith, bit_at_or n (2 ^ b) b, bit_at-pow_same b))
+-- those of two words together
+or_left : (n m k : ℕ) → bit_at n k ≡ 1 → bit_at (bit_or n m) k ≡ 1
+or_left n m k one = omega (arith, one, bit_at_or n m k, bit_at-lt m k)
 
-bit_other : (n b k : ℕ) → k ≢ b → bit_at (bit_or n (2 ^ b)) k ≡ bit_at n k
-bit_other n b k apart = omega (arith, bit_at_or n (2 ^ b) k, bit_at-pow_other b k apart)
+or_right : (n m k : ℕ) → bit_at m k ≡ 1 → bit_at (bit_or n m) k ≡ 1
+or_right n m k one = omega (arith, one, bit_at_or n m k, bit_at-lt n k)
+
+or_one : (n m k : ℕ) → bit_at (bit_or n m) k ≡ 1 → (bit_at n k ≡ 1) ⊎ (bit_at m k ≡ 1)
+or_one n m k one = elim (cases_eq (bit_at n k) 1) [
+  | inl e ↦ inl e
+  | inr other ↦ inr (omega (arith, one, other, bit_at_or n m k, bit_at-lt n k, bit_at-lt m k))
+]
 
 -- ---- the last one of a word
 
@@ -95,14 +105,14 @@ below_parted words formed end index is = record {
       let less = by_start words formed index k d ge lt in lt-leb end (get_or words k d).start (omega (arith, near, less));
 }
 
--- ---- a place that is added to a word
+-- ---- places that are added to a word
 
-module _ (words : List PlaceWord) (formed : ArePlaceWords words) (at place : ℕ) (within : at < length words) (starts : (d : PlaceWord) → (get_or words at d).start ≡ place - place % 64) (d : PlaceWord) where
+module _ (words : List PlaceWord) (formed : ArePlaceWords words) (at : ℕ) (word : PlaceWord) (within : at < length words) (starts : (d : PlaceWord) → (get_or words at d).start ≡ word.start) (d : PlaceWord) where
   abbrev old : PlaceWord
   old = get_or words at d
 
   abbrev new : PlaceWord
-  new = with_bit old (place % 64)
+  new = with_bits old word.bits
 
   abbrev more : List PlaceWord
   more = set words at new
@@ -125,8 +135,8 @@ module _ (words : List PlaceWord) (formed : ArePlaceWords words) (at place : ℕ
   new_there : Contains more new
   new_there = (at, subst (λ n. at < n) (sym (length-set words at new)) within, get_or-set_same words at new new within)
 
-  pub set_there : HasPlace more place
-  set_there = (new, new_there, record { starts = starts d; one = bit_here old.bits (place % 64) (place % 64) refl })
+  pub set_there : (p : ℕ) → IsIn word p → HasPlace more p
+  set_there p is = (new, new_there, record { starts = starts d ∙ is.starts; one = or_right old.bits word.bits (p % 64) is.one })
 
   pub set_stay : (p : ℕ) → HasPlace words p → HasPlace more p
   set_stay p h = let w = h.0 in let m = h.1 in let is = h.2 in elim (cases_eq m.0 at) [
@@ -135,18 +145,12 @@ module _ (words : List PlaceWord) (formed : ArePlaceWords words) (at place : ℕ
         let was = subst (λ (v : PlaceWord). IsIn v p) (sym e) is in (
           new,
           new_there,
-          record {
-            starts = was.starts;
-            one = elim (cases_eq (p % 64) (place % 64)) [
-              | inl bit ↦ bit_here old.bits (place % 64) (p % 64) bit
-              | inr apart ↦ bit_other old.bits (place % 64) (p % 64) apart ∙ was.one
-            ];
-          },
+          record { starts = was.starts; one = or_left old.bits word.bits (p % 64) was.one },
         )
     | inr apart ↦ (w, (m.0, subst (λ n. m.0 < n) (sym (length-set words at new)) m.1, get_or-set_other words at m.0 new w apart ∙ m.2), is)
   ]
 
-  pub set_only : (p : ℕ) → HasPlace more p → HasPlace words p ⊎ (place ≡ p)
+  pub set_only : (p : ℕ) → HasPlace more p → HasPlace words p ⊎ IsIn word p
   set_only p h =
       let w = h.0 in
       let m = h.1 in
@@ -156,20 +160,17 @@ module _ (words : List PlaceWord) (formed : ArePlaceWords words) (at place : ℕ
         | inl same ↦
             let e : new ≡ w = sym (get_or-set_same words at new w within) ∙ ap (λ k. get_or more k w) (sym same) ∙ m.2 in
             let now = subst (λ (v : PlaceWord). IsIn v p) (sym e) is in
-            elim (cases_eq (p % 64) (place % 64)) [
-              | inl bit ↦ let one = starts d in let two = now.starts in inr (omega (arith, one, two, bit))
-              | inr apart ↦ inl (old, (at, within, get_or_default words at old d within), record { starts = now.starts; one = sym (bit_other old.bits (place % 64) (p % 64) apart) ∙ now.one })
+            elim (or_one old.bits word.bits (p % 64) now.one) [
+              | inl one ↦ inl (old, (at, within, get_or_default words at old d within), record { starts = now.starts; one = one })
+              | inr one ↦ inr (record { starts = sym (starts d) ∙ now.starts; one = one })
             ]
         | inr apart ↦ inl (w, (m.0, lt, sym (get_or-set_other words at m.0 new w apart) ∙ m.2), is)
       ]
 
--- ---- a place in a word of its own
+-- ---- a word that is put in
 
-module _ (words : List PlaceWord) (formed : ArePlaceWords words) (at place bits : ℕ) (parted : IsPartedAt (λ w. nat_lt (place - place % 64) w.start) words at)
-    (none : at < length words → ((d : PlaceWord) → (get_or words at d).start ≡ place - place % 64) → ⊥) (bit : bits ≡ 2 ^ (place % 64)) where
-  abbrev own : PlaceWord
-  own = record { start = place - place % 64; bits = bits }
-
+module _ (words : List PlaceWord) (formed : ArePlaceWords words) (at : ℕ) (own : PlaceWord) (aligned : own.start % 64 ≡ 0) (parted : IsPartedAt (λ w. nat_lt own.start w.start) words at)
+    (none : at < length words → ((d : PlaceWord) → (get_or words at d).start ≡ own.start) → ⊥) where
   abbrev longer : List PlaceWord
   longer = insert words at own
 
@@ -226,18 +227,15 @@ module _ (words : List PlaceWord) (formed : ArePlaceWords words) (at place bits 
         (λ ig iw. formed.falls (i - 1) (j - 1) d (omega (arith, ig, l)) jw));
     aligned = λ i d lt. cases_at (λ k w. w.start % 64 ≡ 0) i d lt
         (λ il. formed.aligned i d (omega (arith, il, parted.within)))
-        (λ ie. omega arith)
+        (λ ie. aligned)
         (λ ig iw. formed.aligned (i - 1) d iw);
   }
 
   own_there : Contains longer own
   own_there = let long = length-insert words at own parted.within in (at, omega (arith, long, parted.within), here at own refl)
 
-  own_bit : bit_at bits (place % 64) ≡ 1
-  own_bit = ap (λ n. bit_at n (place % 64)) bit ∙ bit_at-pow_same (place % 64)
-
-  pub insert_there : HasPlace longer place
-  insert_there = (own, own_there, record { starts = refl; one = own_bit })
+  pub insert_there : (p : ℕ) → IsIn own p → HasPlace longer p
+  insert_there p is = (own, own_there, is)
 
   pub insert_stay : (p : ℕ) → HasPlace words p → HasPlace longer p
   insert_stay p h =
@@ -252,7 +250,7 @@ module _ (words : List PlaceWord) (formed : ArePlaceWords words) (at place bits 
             (w, (m.0 + 1, omega (arith, long, m.1), above (m.0 + 1) w (omega (arith, ge)) ∙ ap (λ k. get_or words k w) back ∙ m.2), is)
       ]
 
-  pub insert_only : (p : ℕ) → HasPlace longer p → HasPlace words p ⊎ (place ≡ p)
+  pub insert_only : (p : ℕ) → HasPlace longer p → HasPlace words p ⊎ IsIn own p
   insert_only p h =
       let w = h.0 in
       let m = h.1 in
@@ -263,14 +261,98 @@ module _ (words : List PlaceWord) (formed : ArePlaceWords words) (at place bits 
         | inr ge ↦ elim (cases_lt at m.0) [
           | inl l ↦ inl (w, (m.0 - 1, omega (arith, long, m.1, l), sym (above m.0 w l) ∙ m.2), is)
           | inr le ↦
-              let e : own ≡ w = sym (here m.0 w (omega (arith, ge, le))) ∙ m.2 in
-              let now = subst (λ (v : PlaceWord). IsIn v p) (sym e) is in
-              elim (cases_eq (p % 64) (place % 64)) [
-                | inl same ↦ let from = now.starts in inr (omega (arith, from, same))
-                | inr apart ↦ let zero = bit_at-pow_other (place % 64) (p % 64) apart in let one = ap (λ n. bit_at n (p % 64)) (sym bit) ∙ now.one in absurd (omega (arith, zero, one))
-              ]
+              let e : own ≡ w = sym (here m.0 w (omega (arith, ge, le))) ∙ m.2 in inr (subst (λ (v : PlaceWord). IsIn v p) (sym e) is)
         ]
       ]
+
+-- ---- words one after another
+
+-- the places of the words are there besides what was, and no others
+pub record HasAdded (old more new : List PlaceWord) : Type 0 where
+  pub there : (p : ℕ) → HasPlace more p → HasPlace new p
+  pub stay : (p : ℕ) → HasPlace old p → HasPlace new p
+  pub only : (p : ℕ) → HasPlace new p → HasPlace old p ⊎ HasPlace more p
+
+pub added_none : (words parts : List PlaceWord) → HasAdded words (take 0 parts) words
+added_none words parts = record { there = λ p h. absurd (member_nil h.0 h.1); stay = λ p h. h; only = λ p h. inl h }
+
+pub added_next : (words parts middle all : List PlaceWord) (i : ℕ) (word : PlaceWord) → i < length parts → word ≡ get_or parts i word → HasAdded words (take i parts) middle
+    → ((p : ℕ) → IsIn word p → HasPlace all p) → ((p : ℕ) → HasPlace middle p → HasPlace all p) → ((p : ℕ) → HasPlace all p → HasPlace middle p ⊎ IsIn word p) → HasAdded words (take (i + 1) parts) all
+added_next words parts middle all i word lt at added there stay only = record {
+  there = λ p h. elim (Contains-push_cases (take i parts) word h.0 (subst (λ ws. Contains ws h.0) longer h.1)) [
+    | inl k ↦ stay p (added.there p (h.0, k, h.2))
+    | inr e ↦ there p (subst (λ (w : PlaceWord). IsIn w p) (sym e) h.2)
+  ];
+  stay = λ p h. stay p (added.stay p h);
+  only = λ p h. elim (only p h) [
+    | inl m ↦ elim (added.only p m) [
+      | inl o ↦ inl o
+      | inr k ↦ inr (k.0, wider k.0 (Contains-append_left (take i parts) (word ∷ []) k.0 k.1), k.2)
+    ]
+    | inr is ↦ inr (word, wider word (Contains-push (take i parts) word), is)
+  ];
+}
+  where
+    longer : take (i + 1) parts ≡ take i parts ++ word ∷ []
+    longer = take_more parts i word lt ∙ ap (λ z. take i parts ++ z ∷ []) (sym at)
+
+    wider : (w : PlaceWord) → Contains (take i parts ++ word ∷ []) w → Contains (take (i + 1) parts) w
+    wider w m = subst (λ ws. Contains ws w) (sym longer) m
+
+-- those of the first words are among all
+pub first_added : (words parts all : List PlaceWord) (i : ℕ) → HasAdded words (take i parts) all → (p : ℕ) → HasPlace all p → HasPlace words p ⊎ HasPlace parts p
+first_added words parts all i added p h = elim (added.only p h) [ inl o ↦ inl o | inr k ↦ inr (k.0, member_take i parts k.0 k.1, k.2) ]
+
+-- ---- one place
+
+-- a word that has it alone
+pub one_in : (place bits : ℕ) → bits ≡ 2 ^ (place % 64) → IsIn (record { start = place - place % 64; bits = bits }) place
+one_in place bits bit = record { starts = refl; one = ap (λ n. bit_at n (place % 64)) bit ∙ bit_at-pow_same (place % 64) }
+
+pub one_only : (place bits : ℕ) → bits ≡ 2 ^ (place % 64) → (p : ℕ) → IsIn (record { start = place - place % 64; bits = bits }) p → place ≡ p
+one_only place bits bit p is = elim (cases_eq (p % 64) (place % 64)) [
+  | inl same ↦ let from = is.starts in omega (arith, from, same)
+  | inr apart ↦ let zero = bit_at-pow_other (place % 64) (p % 64) apart in let one = ap (λ n. bit_at n (p % 64)) (sym bit) ∙ is.one in absurd (omega (arith, zero, one))
+]
+
+-- ---- whether a place is there
+
+-- what has the place stands where its word belongs
+pub word_there : (words : List PlaceWord) → ArePlaceWords words → (at place : ℕ) → IsPartedAt (λ w. nat_lt (place - place % 64) w.start) words at → HasPlace words place
+    → (at < length words) × ((d : PlaceWord) → IsIn (get_or words at d) place)
+word_there words formed at place parted h =
+    let w = h.0 in
+    let m = h.1 in
+    let is = h.2 in
+    let e : m.0 ≡ at = elim (cases_lt m.0 at) [
+      | inl l ↦
+          let far = ltb-true (place - place % 64) (get_or words m.0 w).start (parted.before m.0 w (omega arith) l) in
+          let same = ap (λ (u : PlaceWord). u.start) m.2 ∙ is.starts in absurd (omega (arith, far, same))
+      | inr ge ↦ elim (cases_lt at m.0) [
+        | inl l ↦
+            let falls = formed.falls at m.0 w l m.1 in
+            let near = ltb-false (place - place % 64) (get_or words at w).start (parted.after at w (omega arith) (omega (arith, l, m.1))) in
+            let same = ap (λ (u : PlaceWord). u.start) m.2 ∙ is.starts in absurd (omega (arith, falls, near, same))
+        | inr le ↦ omega (arith, ge, le)
+      ]
+    ] in
+    let within : at < length words = omega (arith, e, m.1) in
+    (within, λ d. subst (λ (v : PlaceWord). IsIn v place) (sym (get_or_default words at d w within ∙ ap (λ k. get_or words k w) (sym e) ∙ m.2)) is)
+
+pub tells_there : (words : List PlaceWord) → ArePlaceWords words → (at place : ℕ) → IsPartedAt (λ w. nat_lt (place - place % 64) w.start) words at → (at < length words) × ((d : PlaceWord) → (get_or words at d).start ≡ place - place % 64)
+    → (b : Bool) → Tells b ((d : PlaceWord) → bit_at (get_or words at d).bits (place % 64) ≡ 1) → Tells b (HasPlace words place)
+tells_there words formed at place parted there b =
+    let any : PlaceWord = record { start = 0; bits = 0 } in
+    let word : PlaceWord = get_or words at any in
+    tells_same ((d : PlaceWord) → bit_at (get_or words at d).bits (place % 64) ≡ 1) (HasPlace words place) b
+    (λ one. (word, (at, there.0, get_or_default words at word any there.0), record { starts = there.1 any; one = one any }))
+    (λ h d. ((word_there words formed at place parted h).1 d).one)
+
+pub tells_away : (words : List PlaceWord) → ArePlaceWords words → (at place : ℕ) → IsPartedAt (λ w. nat_lt (place - place % 64) w.start) words at
+    → (b : Bool) → Tells b ((at < length words) × ((d : PlaceWord) → (get_or words at d).start ≡ place - place % 64)) → b ≡ false → Tells b (HasPlace words place)
+tells_away words formed at place parted b tells is =
+    tells_both (HasPlace words place) b (λ t. absurd (false≢true (sym is ∙ t)))
+    (λ f h. let w = word_there words formed at place parted h in tells_false ((at < length words) × ((d : PlaceWord) → (get_or words at d).start ≡ place - place % 64)) b tells f (w.0, λ d. (w.1 d).starts))
 
 -- ---- the last place below an end
 

@@ -3,10 +3,10 @@ use Rattle.std.proofs.Common.{◌≡◌, ℕ, ◌+◌, ◌<◌, List, [], ◌∷
 use Rattle.std.specs.List.{insert}
 use Rattle.std.proofs.lemmas.List.{take_more}
 use Rattle.std.proofs.lemmas.List.Elements.{Contains-append_left, Contains-append_right, Contains-append_cases}
-use Rattle.palm_base.specs.Order.{BelongsAt, Rises, with_cid}
+use Rattle.palm_base.specs.Order.{BelongsAt, Rises, StandsAt, with_cid}
 use Rattle.palm_base.specs.declared.terms.Cid.{Cid}
-use Rattle.palm_base.proofs.cited.Members.{member_here, member_same, member_single}
-use Rattle.palm_base.proofs.cited.RisingLists.{member_with_cid, put_rising, with_cid_cases, with_cid_here, with_cid_rises}
+use Rattle.palm_base.proofs.cited.Members.{member_get, member_here, member_same, member_single}
+use Rattle.palm_base.proofs.cited.RisingLists.{member_with_cid, put_rising, stands_cid, with_cid_cases, with_cid_here, with_cid_rises}
 use Rattle.palm_explain.specs.Merging.{IsMerged}
 
 -- an id that is put at its place
@@ -20,6 +20,15 @@ merged_put cids t i rises at = subst (IsMerged cids (t ∷ [])) (sym (put_rising
   first = λ c m. member_with_cid t cids c m;
   second = λ c m. member_same (with_cid t cids) t c (member_single t c m) (with_cid_here t cids);
 })
+
+-- an id that stands there already
+pub merged_there : (cids : List Cid) (t : Cid) (i : ℕ) → Rises cids → StandsAt (λ c. c) cids i t → IsMerged cids (t ∷ []) cids
+merged_there cids t i rises at = record {
+  rising = rises;
+  sound = λ c m. inl m;
+  first = λ c m. m;
+  second = λ c m. member_same cids t c (member_single t c m) (member_get cids i t (stands_cid cids i t at));
+}
 
 pub merged_then : (cids a middle b merged : List Cid) → IsMerged cids a middle → IsMerged middle b merged → IsMerged cids (a ++ b) merged
 merged_then cids a middle b merged one two = record {

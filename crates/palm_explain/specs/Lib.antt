@@ -1,3 +1,4 @@
+pub mod CidSets
 pub mod Entries
 pub mod Explanations
 pub mod Firsts

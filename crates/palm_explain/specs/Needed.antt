@@ -1,7 +1,6 @@
 -- Which removals the removals of pairs rest on, and how a walk finds their places.
 use Rattle.std.specs.Prelude.{◌≡◌, ◌⊎◌, ◌↔◌, ℕ, ℤ, ◌<◌, ◌≤◌, ◌<ℤ◌, ◌≤ℤ◌, List, Contains, Some, slice_get}
 use Rattle.std.specs.List.{AllPairs}
-use Rattle.palm_base.specs.Order.{Rises}
 use Rattle.palm_base.specs.declared.terms.Cid.{Cid}
 use Rattle.palm_base.specs.declared.terms.Pair.{Pair}
 use Rattle.palm_model.specs.Log.{Removal}
@@ -36,11 +35,10 @@ pub record AreNeeded (log : List Removal) (pairs : List Pair) (places : List ℕ
   pub climbs : Climbs places
   pub each : (place : ℕ) → Contains places place ↔ IsNeededAt log pairs place
 
--- the ids of the constraints that made the removals at these places, by rising id
-pub record AreMakers (log : List Removal) (places : List ℕ) (cids : List Cid) : Type 0 where
-  pub rising : Rises cids
-  pub sound : (c : Cid) → Contains cids c → (place : ℕ) × (r : Removal) × Contains places place × (slice_get log place ≡ Some r) × (r.by ≡ c)
-  pub whole : (place : ℕ) (r : Removal) → Contains places place → slice_get log place ≡ Some r → Contains cids r.by
+-- the ids are exactly those of the constraints that made the removals at these places
+pub record AreMakers (log : List Removal) (places : List ℕ) (ids : Cid → Type 0) : Type 0 where
+  pub sound : (c : Cid) → ids c → (place : ℕ) × (r : Removal) × Contains places place × (slice_get log place ≡ Some r) × (r.by ≡ c)
+  pub whole : (place : ℕ) (r : Removal) → Contains places place → slice_get log place ≡ Some r → ids r.by
 
 -- ---- the walk
 

@@ -1,5 +1,5 @@
 -- Sets of places of the log, by words of 64 places that stand together.
-use Rattle.std.specs.Prelude.{◌≡◌, ℕ, ◌-◌, ◌^◌, ◌%◌, ◌<◌, ◌≤◌, List, Contains, length, slice_index_or, bit_or}
+use Rattle.std.specs.Prelude.{◌≡◌, ℕ, ◌-◌, ◌%◌, ◌<◌, ◌≤◌, List, Contains, length, slice_index_or, bit_or}
 use Rattle.std.specs.Int.{bit_at}
 use Rattle.palm_explain.specs.declared.places.PlaceWord.{PlaceWord}
 
@@ -17,9 +17,9 @@ pub record ArePlaceWords (words : List PlaceWord) : Type 0 where
   pub falls : (i j : ℕ) (d : PlaceWord) → i < j → j < length words → (slice_index_or words j d).start < (slice_index_or words i d).start
   pub aligned : (i : ℕ) (d : PlaceWord) → i < length words → (slice_index_or words i d).start % 64 ≡ 0
 
--- the word with a one at this bit
-abbrev pub with_bit : PlaceWord → ℕ → PlaceWord
-with_bit word bit = record word { bits = bit_or word.bits (2 ^ bit) }
+-- the word with ones at these bits too
+abbrev pub with_bits : PlaceWord → ℕ → PlaceWord
+with_bits word bits = record word { bits = bit_or word.bits bits }
 
 -- the last of the places of the word that stand below the end
 pub record IsLastIn (word : PlaceWord) (end place : ℕ) : Type 0 where

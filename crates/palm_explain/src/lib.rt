@@ -1,7 +1,7 @@
 //! The log of removals: it explains each removed value, and withdraws a constraint from all that rests on it.
 #![tactic(auto)]
 
-mod cids;
+mod cid_set;
 mod entry;
 mod firsts;
 mod laws;
@@ -16,7 +16,7 @@ mod spans;
 mod store;
 mod withdrawing;
 
-pub use cids::add_cids;
+pub use cid_set::CidSet;
 pub use laws::{
     full_stores_lack_nothing, stores_lack_what_is_taken_out, well_founded_logs_are_linked,
     withdrawals_add_up,

@@ -8,7 +8,7 @@ ghost use Rattle.palm_explain.specs.Explanations.{NamesOfSome};
 ghost use Rattle.palm_explain.specs.Needed.{AreNotedSpans, Falls, HasNoted, IsNeededAt, IsNotedSpan};
 ghost use Rattle.palm_explain.specs.Rows.{AreFormedRows};
 
-use crate::cids::{Near, add_cid};
+use crate::cid_set::CidSet;
 use crate::entry::{Entry, place_of};
 use crate::noted::{NotedSpan, empty_spans, noted_of, set_noted, wider};
 use crate::places::Places;
@@ -177,14 +177,13 @@ pub(crate) fn cids_of(
     let mut noted = Places::new(alloc);
     note_values(rows, var, values, &mut noted)?;
     let mut known = empty_spans(alloc, rows.len())?;
-    let mut cids = Vec::new(alloc);
-    let mut near = Near::new();
+    let mut cids = CidSet::new(alloc);
     let mut end = NO_NUMBER;
     while let Some(number) = noted.last_below(end) {
         let entry = entry_at(log, place_of(log, number));
-        add_cid(&mut cids, &mut near, &entry.by)?;
+        cids.add(&entry.by)?;
         note_reasons(rows, entry, &mut known, &mut noted)?;
         end = number;
     }
-    Ok(cids)
+    cids.list(alloc)
 }

@@ -4,7 +4,7 @@ ghost use Rattle.std.specs.Prelude.{◌≡◌, ◌⊎◌, ℕ, ◌%◌, ◌<◌,
 ghost use Rattle.std.specs.Int.{bit_at};
 ghost use Rattle.palm_base.specs.Order.{IsPartedAt};
 ghost use Rattle.palm_base.specs.Tells.{Tells};
-ghost use Rattle.palm_explain.specs.Places.{ArePlaceWords, BeginsBelow, HasPlace, IsIn, IsLastBelow, IsLastIn, with_bit};
+ghost use Rattle.palm_explain.specs.Places.{ArePlaceWords, BeginsBelow, HasPlace, IsIn, IsLastBelow, IsLastIn, with_bits};
 ghost use Rattle.palm_explain.specs.declared.places.PlaceWord.{PlaceWord as PlaceWordTerm};
 
 use palm_base::NoMemory;
@@ -52,21 +52,55 @@ impl Places {
     }
 
     /// Adds a place, unless it is there. Without memory nothing changes.
+    #[inline(always)]
     pub(crate) fn add(&mut self, place: usize) -> Result<(), NoMemory>
         ensures there { OnOk result (HasPlace self.new place) }
         ensures stay { (p : ℕ) → HasPlace self.old p → HasPlace self.new p }
         ensures only { (p : ℕ) → HasPlace self.new p → HasPlace self.old p ⊎ (place ≡ p) }
     {
-        let start = place - place % 64;
-        let at = index_near(&self.words, self.near, start);
+        self.add_word(&PlaceWord {
+            start: place - place % 64,
+            bits: 1 << (place % 64),
+        })
+    }
+
+    /// Adds the places of a word, but for those that are there. Without memory nothing changes.
+    #[inline(always)]
+    fn add_word(&mut self, word: &PlaceWord) -> Result<(), NoMemory>
+        requires { word.now.start % 64 ≡ 0 }
+        ensures there { OnOk result ((p : ℕ) → IsIn word.now p → HasPlace self.new p) }
+        ensures stay { (p : ℕ) → HasPlace self.old p → HasPlace self.new p }
+        ensures only { (p : ℕ) → HasPlace self.new p → HasPlace self.old p ⊎ IsIn word.now p }
+    {
+        let at = index_near(&self.words, self.near, word.start);
         self.near = at;
-        if starts_at(&self.words, at, start) {
-            set_bit(&mut self.words, at, place % 64);
+        if starts_at(&self.words, at, word.start) {
+            join_bits(&mut self.words, at, word.bits);
             return Ok(());
         }
-        let bits = 1 << (place % 64);
-        self.words.insert(at, PlaceWord { start, bits })?;
+        self.words.insert(at, *word)?;
         Ok(())
+    }
+
+    /// Adds the places of another set, a word at a time.
+    pub(crate) fn add_all(&mut self, other: &Places) -> Result<(), NoMemory>
+        ensures there { OnOk result ((p : ℕ) → HasPlace other.now p → HasPlace self.new p) }
+        ensures stay { (p : ℕ) → HasPlace self.old p → HasPlace self.new p }
+        ensures only { (p : ℕ) → HasPlace self.new p → HasPlace self.old p ⊎ HasPlace other.now p }
+    {
+        for word in other.words.as_slice() {
+            self.add_word(word)?;
+        }
+        Ok(())
+    }
+
+    /// Whether the place is in the set.
+    pub(crate) fn has(&self, place: usize) -> bool
+        ensures { Tells result (HasPlace self.now place) }
+    {
+        let start = place - place % 64;
+        let at = index_near(&self.words, self.near, start);
+        starts_at(&self.words, at, start) && has_bit(&self.words, at, place % 64)
     }
 
     /// The last of the places below the end.
@@ -164,14 +198,23 @@ fn index_below(words: &[PlaceWord], end: usize) -> usize
     index_from(words, end)
 }
 
-/// Makes a bit of the word at an index a one.
+/// Makes each of these bits of the word at an index a one.
 #[inline(always)]
-fn set_bit(words: &mut Vec<PlaceWord>, index: usize, bit: usize)
-    requires index { index < length words.old.items }
-    requires bit { bit < 64 }
-    ensures { (d : PlaceWordTerm) → words.new.items ≡ slice_set words.old.items index (with_bit (slice_index_or words.old.items index d) bit) }
+fn join_bits(words: &mut Vec<PlaceWord>, index: usize, bits: u64)
+    requires { index < length words.old.items }
+    ensures { (d : PlaceWordTerm) → words.new.items ≡ slice_set words.old.items index (with_bits (slice_index_or words.old.items index d) bits) }
 {
-    words[index].bits |= 1 << bit;
+    words[index].bits |= bits;
+}
+
+/// Whether a bit of the word at an index is a one.
+#[inline(always)]
+fn has_bit(words: &[PlaceWord], index: usize, bit: usize) -> bool
+    requires index { index < length words.now }
+    requires bit { bit < 64 }
+    ensures { Tells result ((d : PlaceWordTerm) → bit_at (slice_index_or words.now index d).bits bit ≡ 1) }
+{
+    (words[index].bits >> bit) & 1 == 1
 }
 
 /// The first so many bits of a word.

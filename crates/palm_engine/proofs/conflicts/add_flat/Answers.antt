@@ -1,6 +1,7 @@
-use Rattle.std.proofs.Common.{[], ◌∷◌, inl, inr, refl, sym, ap, ◌∙◌, subst}
+use Rattle.std.proofs.Common.{inl, inr, sym, ap, subst}
 use Rattle.palm_model.specs.Log.{Active}
 use Rattle.palm_model.specs.State.{IsJustifier}
+use Rattle.palm_explain.specs.CidSets.{IsMember}
 use Rattle.palm_engine.specs.Posted.{active_of, actives_of}
 use Rattle.palm_engine.proofs.Gathering.{flat_negation, flat_justifier}
 use Rattle.palm_engine.proofs.Placing.{placed_same, placed_within}
@@ -17,15 +18,14 @@ returns-in-Not g c =
     let is = c.requires.active in
     let active = actives_of g.F.Filter.meaning c.args.posted.now in
     let same = placed_same (active_of g.F.Filter.meaning) c.args.posted.now c.place_of.result c.index-posted-place_of.result is.owner c.index-posted-place_of.is (c.place_of.ensures.owner is.owner is.posted is.named) in
-    on_ok c.add_cids.result _ _
-    (flat_negation active c.args.cid.now c.in-Not.field-0 is.owner c.args.cids.now.items c.justification.result.now c.add_cids.new.cids.items c.requires.rising c.in-Not.is is.posted is.named
-    (c.justification.ensures ∙ ap (λ (a : Active). a.justification) same))
-    c.add_cids.ensures
+    on_ok c.add_justification.result _ _
+    (flat_negation active c.args.cid.now c.in-Not.field-0 is.owner (active_of g.F.Filter.meaning c.index-posted-place_of.result).justification (IsMember c.args.cids.now) (IsMember c.add_justification.new.cids) c.requires.rising c.in-Not.is is.posted is.named
+    (ap (λ (a : Active). a.justification) same))
+    c.add_justification.ensures
 
 pub returns-in-Decide : goal.returns-in-Decide
 returns-in-Decide g c =
     let active = actives_of g.F.Filter.meaning c.args.posted.now in
     let cid = c.args.cid.now in
     let justifier : IsJustifier cid = elim c.in-Decide.is [ inl d ↦ subst IsJustifier (sym d.1) tt | inr u ↦ subst IsJustifier (sym u.1) tt ] in
-    on_ok c.add_cids-in-Decide.result _ _
-    (flat_justifier active cid c.args.cids.now.items (cid ∷ []) c.add_cids-in-Decide.new.cids.items justifier refl) c.add_cids-in-Decide.ensures
+    on_ok c.add.result _ _ (flat_justifier active cid (IsMember c.args.cids.now) (IsMember c.add.new.self) justifier) c.add.ensures

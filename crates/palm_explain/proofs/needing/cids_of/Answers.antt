@@ -2,11 +2,13 @@ use Rattle.std.proofs.Common.{◌≡◌, ◌∙◌, arith, [], ◌∷◌, ◌++�
 use Rattle.std.proofs.lemmas.Option.{slice_get_within}
 use Rattle.palm_explain.specs.declared.entry.Entry.{Entry}
 use Rattle.palm_explain.specs.declared.rows.TheConstants.{NO_NUMBER}
+use Rattle.palm_explain.specs.CidSets.{IsMember}
 use Rattle.palm_explain.specs.Entries.{log_of, pairs_with, removal_of}
 use Rattle.palm_explain.specs.Needed.{AreNotedSpans, HasNoted}
-use Rattle.palm_explain.proofs.NeededPlaces.{IsWalkedBy, makers_explain, makers_more, makers_none, walk_begun, walk_ended, walk_here, walk_next}
+use Rattle.palm_explain.proofs.NeededPlaces.{makers_explain, makers_more, makers_none, walk_begun, walk_ended, walk_here, walk_next}
 use Rattle.palm_explain.proofs.NotedSpans.{spans_empty, spans_lower}
 use Rattle.palm_explain.proofs.Reasons.{map_place, some_same}
+use Rattle.palm_explain.proofs.Stores.{if_ok}
 use Rattle.palm_explain.proofs.needing.cids_of.Goals as goal
 
 pub loop-number-init : goal.loop-number-init
@@ -16,12 +18,11 @@ loop-number-init c =
     let pairs = pairs_with c.args.var c.args.values.now in
     let noted = c.note_values.new.noted in
     let entered = c.requires.entered in (
-      subst (IsWalkedBy log rows pairs noted NO_NUMBER) (sym c.new-cids.ensures.items)
-          (record {
-            visited = [];
-            walked = walk_begun log rows entered.0 entered.1 pairs noted (subst (λ ws. HasNoted rows ws noted pairs) c.new-noted.ensures c.in_ok-note_values.ensures);
-            made = makers_none (log_of rows log);
-          }),
+      record {
+        visited = [];
+        walked = walk_begun log rows entered.0 entered.1 pairs noted (subst (λ ws. HasNoted rows ws noted pairs) c.new-noted.ensures c.in_ok-note_values.ensures);
+        made = makers_none (log_of rows log) (IsMember c.new-cids.result) c.new-cids.ensures;
+      },
       spans_empty rows c.in_ok-known.known.items NO_NUMBER noted c.in_ok-known.ensures,
     )
 
@@ -52,7 +53,7 @@ loop-number-preserved c =
       record {
         visited = i.visited ++ place ∷ [];
         walked = walk_next log rows entered.0 entered.1 pairs l.noted c.note_reasons.new.noted l.end number place e i.visited i.walked c.in-Some.ensures.some at is c.in_ok-note_reasons.ensures.noted;
-        made = makers_more (log_of rows log) i.visited place (removal_of rows e) l.cids.items c.add_cid.new.cids.items (map_place (removal_of rows) log place e at) i.made c.in_ok-add_cid.ensures;
+        made = makers_more (log_of rows log) i.visited place (removal_of rows e) (IsMember l.cids) (IsMember c.add.new.self) (map_place (removal_of rows) log place e at) i.made c.in_ok-add.ensures;
       },
       subst (λ n. AreNotedSpans rows c.note_reasons.new.known.items n c.note_reasons.new.noted) is c.in_ok-note_reasons.ensures.known,
     )
@@ -78,5 +79,7 @@ returns c =
     let entered = c.requires.entered in
     let l = c.loop-number in
     let i = l.invariant.0 in
-    makers_explain (log_of rows log) c.args.var c.args.values.now i.visited l.cids.items
-    (walk_ended log rows entered.0 entered.1 (pairs_with c.args.var c.args.values.now) l.noted l.end i.visited i.walked c.in_default.ensures.none) i.made
+    if_ok c.list.result _ _
+    (λ cids listed. makers_explain (log_of rows log) c.args.var c.args.values.now i.visited (IsMember l.cids) cids.items
+    (walk_ended log rows entered.0 entered.1 (pairs_with c.args.var c.args.values.now) l.noted l.end i.visited i.walked c.in_default.ensures.none) i.made listed)
+    c.list.ensures

@@ -1,67 +1,15 @@
-use Rattle.std.proofs.Common.{◌≡◌, ◌<◌, ◌-◌, ◌%◌, ◌*◌, ◌^◌, ℕ, List, length, get_or, nat_lt, ◌⊎◌, sym, subst, arith}
+use Rattle.std.proofs.Common.{◌*◌, ◌^◌, ◌%◌, inl, inr, arith}
 use Rattle.std.proofs.lemmas.Nat.{one_shl}
-use Rattle.palm_base.specs.Order.{IsPartedAt}
-use Rattle.palm_explain.specs.declared.places.PlaceWord.{PlaceWord}
-use Rattle.palm_explain.specs.Places.{ArePlaceWords, HasPlace}
-use Rattle.palm_explain.proofs.PlaceSets.{insert_formed, insert_only, insert_stay, insert_there, set_formed, set_only, set_stay, set_there}
+use Rattle.palm_explain.proofs.PlaceSets.{one_in, one_only}
+use Rattle.palm_explain.proofs.Stores.{on_ok}
 use Rattle.palm_explain.proofs.places.Places.add.Goals as goal
-use Rattle.palm_explain.proofs.places.Places.add.Goals.{After-set_bit, In_ok-insert}
-
-none : PlaceWord
-none = record { start = 0; bits = 0 }
-
--- the word of the place stands there
-within : (c : After-set_bit) → c.index_near-at.result < length c.self.inside.words.items
-within c = subst (λ (ws : List PlaceWord). c.index_near-at.result < length ws) c.deref-2.ensures.value c.if-starts_at.ensures.0
-
-starts : (c : After-set_bit) (d : PlaceWord) → (get_or c.self.inside.words.items c.index_near-at.result d).start ≡ c.args.place - c.args.place % 64
-starts c d = subst (λ (ws : List PlaceWord). (get_or ws c.index_near-at.result d).start ≡ c.args.place - c.args.place % 64) c.deref-2.ensures.value (c.if-starts_at.ensures.1 d)
-
-pub invariant_of-self : goal.invariant_of-self
-invariant_of-self c = subst ArePlaceWords (sym (c.set_bit.ensures none)) (set_formed c.self.inside.words.items c.self.invariant c.index_near-at.result c.args.place (within c) (starts c) none)
-
-pub returns-then-starts_at-clause-there : goal.returns-then-starts_at-clause-there
-returns-then-starts_at-clause-there c =
-    subst (λ (ws : List PlaceWord). HasPlace ws c.args.place) (sym (c.set_bit.ensures none)) (set_there c.self.inside.words.items c.self.invariant c.index_near-at.result c.args.place (within c) (starts c) none)
-
-pub returns-then-starts_at-clause-stay : goal.returns-then-starts_at-clause-stay
-returns-then-starts_at-clause-stay c p h =
-    subst (λ (ws : List PlaceWord). HasPlace ws p) (sym (c.set_bit.ensures none))
-    (set_stay c.self.inside.words.items c.self.invariant c.index_near-at.result c.args.place (within c) (starts c) none p (subst (λ (ws : List PlaceWord). HasPlace ws p) (sym c.self.view_is) h))
-
-pub returns-then-starts_at-clause-only : goal.returns-then-starts_at-clause-only
-returns-then-starts_at-clause-only c p h =
-    subst (λ (ws : List PlaceWord). HasPlace ws p ⊎ (c.args.place ≡ p)) c.self.view_is
-    (set_only c.self.inside.words.items c.self.invariant c.index_near-at.result c.args.place (within c) (starts c) none p (subst (λ (ws : List PlaceWord). HasPlace ws p) (c.set_bit.ensures none) h))
-
--- it has a word of its own
-abbrev bits : In_ok-insert → ℕ
-bits c = 1 * 2 ^ (c.args.place % 64) % 2 ^ 64
-
-parted : (c : In_ok-insert) → IsPartedAt (λ w. nat_lt (c.args.place - c.args.place % 64) w.start) c.self.inside.words.items c.index_near-at.result
-parted c = subst (λ (ws : List PlaceWord). IsPartedAt (λ w. nat_lt (c.args.place - c.args.place % 64) w.start) ws c.index_near-at.result) c.deref.ensures.value c.index_near-at.ensures
-
-apart : (c : In_ok-insert) → c.index_near-at.result < length c.self.inside.words.items → ((d : PlaceWord) → (get_or c.self.inside.words.items c.index_near-at.result d).start ≡ c.args.place - c.args.place % 64) → ⊥
-apart c =
-    subst (λ (ws : List PlaceWord). c.index_near-at.result < length ws → ((d : PlaceWord) → (get_or ws c.index_near-at.result d).start ≡ c.args.place - c.args.place % 64) → ⊥) c.deref-2.ensures.value
-    (λ lt same. c.if-starts_at.ensures (lt, same))
-
-one : (c : In_ok-insert) → bits c ≡ 2 ^ (c.args.place % 64)
-one c = one_shl (c.args.place % 64) 64 (omega arith)
-
-pub invariant_of-self-2 : goal.invariant_of-self-2
-invariant_of-self-2 c = subst ArePlaceWords (sym c.in_ok-insert.ensures.items) (insert_formed c.self.inside.words.items c.self.invariant c.index_near-at.result c.args.place (bits c) (parted c) (apart c) (one c))
 
 pub returns-clause-there : goal.returns-clause-there
 returns-clause-there c =
-    subst (λ (ws : List PlaceWord). HasPlace ws c.args.place) (sym c.in_ok-insert.ensures.items) (insert_there c.self.inside.words.items c.self.invariant c.index_near-at.result c.args.place (bits c) (parted c) (apart c) (one c))
-
-pub returns-clause-stay : goal.returns-clause-stay
-returns-clause-stay c p h =
-    subst (λ (ws : List PlaceWord). HasPlace ws p) (sym c.in_ok-insert.ensures.items)
-    (insert_stay c.self.inside.words.items c.self.invariant c.index_near-at.result c.args.place (bits c) (parted c) (apart c) (one c) p (subst (λ (ws : List PlaceWord). HasPlace ws p) (sym c.self.view_is) h))
+    on_ok c.add_word.result _ _ (λ there. there c.args.place (one_in c.args.place (1 * 2 ^ (c.args.place % 64) % 2 ^ 64) (one_shl (c.args.place % 64) 64 (omega arith)))) c.add_word.ensures.there
 
 pub returns-clause-only : goal.returns-clause-only
-returns-clause-only c p h =
-    subst (λ (ws : List PlaceWord). HasPlace ws p ⊎ (c.args.place ≡ p)) c.self.view_is
-    (insert_only c.self.inside.words.items c.self.invariant c.index_near-at.result c.args.place (bits c) (parted c) (apart c) (one c) p (subst (λ (ws : List PlaceWord). HasPlace ws p) c.in_ok-insert.ensures.items h))
+returns-clause-only c p h = elim (c.add_word.ensures.only p h) [
+  | inl old ↦ inl old
+  | inr is ↦ inr (one_only c.args.place (1 * 2 ^ (c.args.place % 64) % 2 ^ 64) (one_shl (c.args.place % 64) 64 (omega arith)) p is)
+]

@@ -1,0 +1,156 @@
+//! Sets of ids: a bit for each decision and each user, in words of 64, and the negations by rising id. A set is gathered in any order,
+//! and another set is added to it a word at a time; a list of it is made once.
+ghost use Rattle.std.specs.Prelude.{◌≡◌, ◌⊎◌, ◌^◌, ◌<◌, ℕ, [], ◌∷◌, Contains, IfOk, OnErr, OnOk};
+ghost use Rattle.palm_base.specs.Order.{Rises};
+ghost use Rattle.palm_base.specs.Tells.{Tells};
+ghost use Rattle.palm_base.specs.declared.terms.Cid.{Cid as CidTerm};
+ghost use Rattle.palm_model.specs.Log.{IsListOf};
+ghost use Rattle.palm_explain.specs.CidSets.{IsDecisionIn, IsJoined, IsMember, IsUserIn};
+ghost use Rattle.palm_explain.specs.Merging.{IsMerged};
+ghost use Rattle.palm_explain.specs.Places.{HasPlace};
+
+use crate::places::Places;
+use palm_base::{Cid, NoMemory, Var, place_for};
+use std::alloc::{AllocFailed, Global};
+use std::marker::Model;
+
+/// Ids, each once.
+#[derive(Drop)]
+pub struct CidSet {
+    /// By their variables.
+    decisions: Places,
+    /// By rising id.
+    negations: Vec<Cid>,
+    /// By their numbers.
+    users: Places,
+}
+
+impl Model for CidSet {
+    ghost use Rattle.palm_explain.specs.CidSets.{AreMembers, CidMembers};
+
+    ghost Value = { CidMembers };
+
+    ghost view = { λ s. record { decisions = s.decisions; negations = s.negations.items; users = s.users } };
+
+    ghost invariant = { λ s. AreMembers s.decisions s.negations.items s.users };
+}
+
+impl CidSet {
+    /// No id.
+    pub fn new(alloc: Global) -> CidSet
+        ensures { (c : CidTerm) → IsMember result c → ⊥ }
+    {
+        CidSet {
+            decisions: Places::new(alloc),
+            negations: Vec::new(alloc),
+            users: Places::new(alloc),
+        }
+    }
+
+    /// Adds an id, unless it is there.
+    pub fn add(&mut self, cid: &Cid) -> Result<(), NoMemory>
+        ensures { OnOk result (IsJoined (IsMember self.old) (λ c. c ≡ cid.now) (IsMember self.new)) }
+    {
+        match cid {
+            Cid::Decide(var) => self.decisions.add(var.0 as usize),
+            Cid::Not(_) => put(&mut self.negations, cid),
+            Cid::User(number) => self.users.add(*number as usize),
+        }
+    }
+
+    /// Adds each of the ids, unless it is there.
+    pub fn add_each(&mut self, cids: &[Cid]) -> Result<(), NoMemory>
+        ensures { OnOk result (IsJoined (IsMember self.old) (Contains cids.now) (IsMember self.new)) }
+    {
+        for cid in cids {
+            self.add(cid)?;
+        }
+        Ok(())
+    }
+
+    /// Adds each id of another set, unless it is there.
+    pub fn add_all(&mut self, other: &CidSet) -> Result<(), NoMemory>
+        ensures { OnOk result (IsJoined (IsMember self.old) (IsMember other.now) (IsMember self.new)) }
+    {
+        self.decisions.add_all(&other.decisions)?;
+        put_each(&mut self.negations, &other.negations)?;
+        self.users.add_all(&other.users)
+    }
+
+    /// Whether the id is in the set.
+    pub fn has(&self, cid: &Cid) -> bool
+        ensures { Tells result (IsMember self.now cid.now) }
+    {
+        match cid {
+            Cid::Decide(var) => self.decisions.has(var.0 as usize),
+            Cid::Not(_) => place_for(&self.negations, 0, cid).is_ok(),
+            Cid::User(number) => self.users.has(*number as usize),
+        }
+    }
+
+    /// The ids, by rising id.
+    pub fn list(&self, alloc: Global) -> Result<Vec<Cid>, NoMemory>
+        ensures { IfOk result (λ cids. IsListOf (IsMember self.now) cids.items) }
+    {
+        let mut cids = decisions_of(alloc, &self.decisions)?;
+        let users = users_of(alloc, &self.users)?;
+        cids.extend_from_slice(&self.negations)?;
+        cids.extend_from_slice(&users)?;
+        Ok(cids)
+    }
+}
+
+/// Adds an id at its place in the order, unless it is there. Without memory nothing changes.
+fn put(cids: &mut Vec<Cid>, cid: &Cid) -> Result<(), NoMemory>
+    requires { Rises cids.old.items }
+    ensures ok { OnOk result (IsMerged cids.old.items (cid.now ∷ []) cids.new.items) }
+    ensures err { OnErr result (cids.new.items ≡ cids.old.items) }
+{
+    if let Err(place) = place_for(cids, 0, cid) {
+        cids.insert(place, *cid)?;
+    }
+    Ok(())
+}
+
+/// Adds each of the ids at its place in the order, unless it is there.
+fn put_each(cids: &mut Vec<Cid>, more: &[Cid]) -> Result<(), NoMemory>
+    requires { Rises cids.old.items }
+    ensures rises { Rises cids.new.items }
+    ensures only { (c : CidTerm) → Contains cids.new.items c → Contains cids.old.items c ⊎ Contains more.now c }
+    ensures ok { OnOk result (IsMerged cids.old.items more.now cids.new.items) }
+{
+    for cid in more {
+        put(cids, cid)?;
+    }
+    Ok(())
+}
+
+/// The ids of the decisions on these variables, by rising id.
+fn decisions_of(alloc: Global, vars: &Places) -> Result<Vec<Cid>, NoMemory>
+    requires { (x : ℕ) → HasPlace vars.now x → x < 2 ^ 32 }
+    ensures { IfOk result (λ cids. IsListOf (IsDecisionIn vars.now) cids.items) }
+{
+    let mut cids = Vec::new(alloc);
+    let mut end = usize::MAX;
+    while let Some(var) = vars.last_below(end) {
+        cids.push(Cid::Decide(Var(var as u32)))?;
+        end = var;
+    }
+    cids.reverse();
+    Ok(cids)
+}
+
+/// The ids of the users with these numbers, by rising id.
+fn users_of(alloc: Global, numbers: &Places) -> Result<Vec<Cid>, NoMemory>
+    requires { (n : ℕ) → HasPlace numbers.now n → n < 2 ^ 32 }
+    ensures { IfOk result (λ cids. IsListOf (IsUserIn numbers.now) cids.items) }
+{
+    let mut cids = Vec::new(alloc);
+    let mut end = usize::MAX;
+    while let Some(number) = numbers.last_below(end) {
+        cids.push(Cid::User(number as u32))?;
+        end = number;
+    }
+    cids.reverse();
+    Ok(cids)
+}
