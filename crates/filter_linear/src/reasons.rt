@@ -31,7 +31,8 @@ fn count_below(store: &DomainStore, var: Var) -> usize
     requires declared { var < length store.now }
     requires filled { 0 < length (values_of (present_of store.now) var) }
     ensures within { result ≤ length (declared_values store.now var) }
-    ensures lower { (low : ℤ) × IsLeastOf (present_values store.now var) low × (take result (declared_values store.now var) ≡ filter (λ v. int_lt v low) (declared_values store.now var)) }
+    ensures lower { (low : ℤ) × IsLeastOf (present_values store.now var) low
+        × (take result (declared_values store.now var) ≡ filter (λ v. int_lt v low) (declared_values store.now var)) }
 {
     store.declared_below(var, number_of(&store.least(var)))
 }
@@ -41,7 +42,8 @@ fn count_up_to(store: &DomainStore, var: Var) -> usize
     requires declared { var < length store.now }
     requires filled { 0 < length (values_of (present_of store.now) var) }
     ensures within { result ≤ length (declared_values store.now var) }
-    ensures higher { (high : ℤ) × IsGreatestOf (present_values store.now var) high × (drop result (declared_values store.now var) ≡ filter (λ v. int_lt high v) (declared_values store.now var)) }
+    ensures higher { (high : ℤ) × IsGreatestOf (present_values store.now var) high
+        × (drop result (declared_values store.now var) ≡ filter (λ v. int_lt high v) (declared_values store.now var)) }
 {
     store.declared_below(var, number_of(&store.greatest(var)) + 1)
 }
@@ -56,7 +58,8 @@ impl Side {
         ensures var { result.var ≡ term.now.var }
         ensures ordered { result.first ≤ result.end }
         ensures within { result.end ≤ length (declared_values store.now term.now.var) }
-        ensures values { drop result.first (take result.end (declared_values store.now term.now.var)) ≡ values_beyond self (initial_of store.now) (present_of store.now) term.now }
+        ensures values { drop result.first (take result.end (declared_values store.now term.now.var))
+            ≡ values_beyond self (initial_of store.now) (present_of store.now) term.now }
     {
         let (first, end) = if self.is_of_low_values(term) {
             (0, count_below(store, term.var))

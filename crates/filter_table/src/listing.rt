@@ -24,7 +24,8 @@ impl Beside {
         declared: &[Value],
         out: &mut Intervals,
     ) -> Result<(), NoMemory>
-        ensures { (d : Domains) (test : ℤ → Bool) → values_of d var.now ≡ declared.now → ((w : ℤ) → Tells (test w) (HasBit self.now own w))
+        ensures { (d : Domains) (test : ℤ → Bool) → values_of d var.now ≡ declared.now
+            → ((w : ℤ) → Tells (test w) (HasBit self.now own w))
             → OnOk result (listed_pairs d out.new.items ≡ listed_pairs d out.old.items ++ pairs_of var.now (filter test declared.now)) }
     {
         let mut first = 0;
@@ -50,7 +51,8 @@ impl IndexedTable {
         requires indexed { IsIndexed self.now }
         requires declared { All (λ x. x < length store.now) self.now.vars }
         requires over { Contains self.now.vars pair.now.var }
-        ensures { IfOk result (λ told. IfSome told (λ known. FitsRule (initial_of store.now) (present_of store.now) (table_of self.now) pair.now.var pair.now.value known out.new.items)) }
+        ensures { IfOk result (λ told. IfSome told (λ known.
+            FitsRule (initial_of store.now) (present_of store.now) (table_of self.now) pair.now.var pair.now.value known out.new.items)) }
     {
         if self.vars.len() != 2 {
             return Ok(None);

@@ -70,7 +70,8 @@ pub trait Filter: Drop {
         requires present { Has (present_of store.now) pair.now.var pair.now.value }
         requires unsupported { LacksSupport (present_of store.now) (meaning self.now) pair.now.var pair.now.value }
         requires filled { AreFilled (present_of store.now) (scope (meaning self.now)) }
-        ensures { IfOk result (λ told. IfSome told (λ known. FitsRule (initial_of store.now) (present_of store.now) (meaning self.now) pair.now.var pair.now.value known out.new.items)) }
+        ensures { IfOk result (λ told. IfSome told (λ known.
+            FitsRule (initial_of store.now) (present_of store.now) (meaning self.now) pair.now.var pair.now.value known out.new.items)) }
     {
         Ok(None)
     }

@@ -24,7 +24,8 @@ fn count_of(store: &DomainStore, var: &Var) -> usize
 
 /// How many declared values of the shift's variable are less than the shifted value.
 fn count_below(store: &DomainStore, shift: &Shift, value: &Value) -> usize
-    ensures { IsPartedAt (λ w. int_lt w (value.now +ℤ shift.now.by)) (declared_values store.now shift.now.var) result }
+    ensures { IsPartedAt (λ w. int_lt w (value.now +ℤ shift.now.by))
+        (declared_values store.now shift.now.var) result }
 {
     if shift.var.0 < store.variables() {
         store.declared_below(shift.var, i64::from(value.0) + i64::from(shift.by))
@@ -35,7 +36,8 @@ fn count_below(store: &DomainStore, shift: &Shift, value: &Value) -> usize
 
 /// How many declared values of the shift's variable are at most the shifted value.
 fn count_up_to(store: &DomainStore, shift: &Shift, value: &Value) -> usize
-    ensures { IsPartedAt (λ w. int_lt w (value.now +ℤ shift.now.by +ℤ pos 1)) (declared_values store.now shift.now.var) result }
+    ensures { IsPartedAt (λ w. int_lt w (value.now +ℤ shift.now.by +ℤ pos 1))
+        (declared_values store.now shift.now.var) result }
 {
     if shift.var.0 < store.variables() {
         store.declared_below(shift.var, i64::from(value.0) + i64::from(shift.by) + 1)
@@ -51,7 +53,8 @@ pub fn push_interval(
     end: usize,
     out: &mut Intervals,
 ) -> Result<(), NoMemory>
-    ensures { (d : Domains) → OnOk result (listed_pairs d out.new.items ≡ listed_pairs d out.old.items ++ interval_pairs d (record { var = var.now; first = first; end = end })) }
+    ensures { (d : Domains) → OnOk result (listed_pairs d out.new.items
+        ≡ listed_pairs d out.old.items ++ interval_pairs d (record { var = var.now; first = first; end = end })) }
 {
     if first < end {
         out.push(Interval {
@@ -90,7 +93,8 @@ pub fn write_out(
     value: &Value,
     out: &mut Intervals,
 ) -> Result<(), NoMemory>
-    ensures { (c : Con) (x : ℕ) → OnOk result (listed_pairs (initial_of store.now) out.new.items ≡ written (initial_of store.now) c rule.now out.old.items x value.now) }
+    ensures { (c : Con) (x : ℕ) → OnOk result (listed_pairs (initial_of store.now) out.new.items
+        ≡ written (initial_of store.now) c rule.now out.old.items x value.now) }
 {
     if let Rule::Listed = rule {
         return Ok(());

@@ -10,7 +10,7 @@ use palm_base::{NoMemory, Pair, VarList};
 use palm_book::Book;
 use palm_domain::DomainStore;
 use palm_engine::Engine;
-use palm_filter::{Filter, Heed, Reasons, Shape};
+use palm_filter::{Filter, Heed, Intervals, Known, Reasons, Shape};
 use palm_kind::Kind;
 use std::alloc::Global;
 
@@ -89,6 +89,15 @@ impl Filter for Lent<'_> {
     #[inline(always)]
     fn supported(&self, store: &DomainStore, pair: Pair) -> bool {
         self.kind.supported(store, pair)
+    }
+
+    fn rule(
+        &self,
+        store: &DomainStore,
+        pair: &Pair,
+        out: &mut Intervals,
+    ) -> Result<Option<Known>, NoMemory> {
+        self.kind.rule(store, pair, out)
     }
 
     fn reason(&self, store: &DomainStore, pair: Pair, out: &mut Reasons) -> Result<(), NoMemory> {
