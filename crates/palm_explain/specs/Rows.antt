@@ -1,5 +1,5 @@
 -- The numbers of removed pairs: a row for each variable, with the values that it lost at some time and a number beside each.
-use Rattle.std.specs.Prelude.{◌≡◌, ◌≢◌, ◌⊎◌, ℕ, ◌<◌, ℤ, Bool, false, ◌&&◌, List, [], ◌∷◌, All, length, drop, filter, Contains, Option, Some, None, slice_get, nat_lt, int_le, if◌then◌else◌}
+use Rattle.std.specs.Prelude.{◌≡◌, ◌≢◌, ◌⊎◌, ℕ, ◌<◌, ℤ, Bool, false, ◌&&◌, List, [], ◌∷◌, All, length, drop, filter, Contains, Option, Some, None, slice_get, slice_index_or, nat_lt, int_le, if◌then◌else◌}
 use Rattle.std.specs.Ordering.{int_eq}
 use Rattle.palm_base.specs.declared.terms.Pair.{Pair}
 use Rattle.palm_base.specs.Ascending.{Ascends}
@@ -11,6 +11,14 @@ abbrev pub number_in : List ℤ → List ℕ → ℤ → Option ℕ
 number_in [] numbers v = None
 number_in (w ∷ values) [] v = None
 number_in (w ∷ values) (k ∷ numbers) v = if int_eq w v then Some k else number_in values numbers v
+
+-- the number of the value
+abbrev pub value_number : Row → ℤ → Option ℕ
+value_number r v = number_in r.values.items r.numbers.items v
+
+-- the value stands at the place
+abbrev pub StandsAt : Row → ℤ → ℕ → Type 0
+StandsAt r v place = (place < length r.values.items) × (slice_index_or r.values.items place v ≡ v)
 
 -- the values ascend, and there is a number for each
 pub record IsFormedRow (r : Row) : Type 0 where

@@ -1,7 +1,7 @@
 //! Where the removals of each constraint begin, so that a withdrawal looks at nothing before its own first one.
-ghost use Rattle.std.specs.Prelude.{◌≡◌, ℕ, ◌<◌, ◌≤◌, true, Some, length, min, set, slice_get, Contains, OnOk};
+ghost use Rattle.std.specs.Prelude.{◌≡◌, ℕ, ◌<◌, true, Some, length, min, set, slice_get, Contains, OnOk};
 ghost use Rattle.palm_base.specs.declared.terms.Cid.{Cid as CidTerm};
-ghost use Rattle.palm_explain.specs.Firsts.{AreFormedFirsts, first_of};
+ghost use Rattle.palm_explain.specs.Firsts.{AreFormedFirsts, HasFirst, first_of};
 ghost use Rattle.palm_explain.specs.declared.entry.Entry.{Entry as EntryTerm};
 
 use crate::entry::Entry;
@@ -30,14 +30,18 @@ impl Firsts {
         }
     }
 
-    /// Notes a number of a constraint, unless it has a less one. Without memory nothing changes.
-    #[inline(never)]
-    fn note(&mut self, cid: &Cid, number: usize) -> Result<(), NoMemory>
-        requires { AreFormedFirsts self.old }
+    /// Notes the number of a constraint's next removal, unless it has a less one, as where it made the last removal of the log too.
+    /// Without memory nothing changes.
+    pub(crate) fn note(&mut self, log: &[Entry], cid: &Cid, number: usize) -> Result<(), NoMemory>
+        requires formed { AreFormedFirsts self.old }
+        requires begun { (e : EntryTerm) → Contains log.now e → HasFirst self.old e.by number }
         ensures formed { AreFormedFirsts self.new }
-        ensures noted { OnOk result ((k : ℕ) × (first_of self.new cid.now ≡ Some k) × (k ≤ number)) }
-        ensures stays { (c : CidTerm) (k : ℕ) → first_of self.old c ≡ Some k → (j : ℕ) × (first_of self.new c ≡ Some j) × (j ≤ k) }
+        ensures noted { OnOk result (HasFirst self.new cid.now number) }
+        ensures stays { (c : CidTerm) (k : ℕ) → first_of self.old c ≡ Some k → HasFirst self.new c k }
     {
+        if made_last(log, cid) {
+            return Ok(());
+        }
         match place_for(&self.cids, self.near, cid) {
             Ok(place) => {
                 self.near = place;
@@ -76,27 +80,6 @@ fn made_last(log: &[Entry], cid: &Cid) -> bool
         Some(entry) => entry.by.is_same(cid),
         None => false,
     }
-}
-
-/// Notes the number of a constraint's next removal, unless a less one is noted, as it is where the constraint made the last one too.
-/// Without memory nothing changes.
-#[inline(always)]
-pub(crate) fn note_next(
-    firsts: &mut Firsts,
-    log: &[Entry],
-    cid: &Cid,
-    number: usize,
-) -> Result<(), NoMemory>
-    requires formed { AreFormedFirsts firsts.old }
-    requires begun { (e : EntryTerm) → Contains log.now e → (k : ℕ) × (first_of firsts.old e.by ≡ Some k) × (k ≤ number) }
-    ensures formed { AreFormedFirsts firsts.new }
-    ensures noted { OnOk result ((k : ℕ) × (first_of firsts.new cid.now ≡ Some k) × (k ≤ number)) }
-    ensures stays { (c : CidTerm) (k : ℕ) → first_of firsts.old c ≡ Some k → (j : ℕ) × (first_of firsts.new c ≡ Some j) × (j ≤ k) }
-{
-    if made_last(log, cid) {
-        return Ok(());
-    }
-    firsts.note(cid, number)
 }
 
 /// Puts a number in place of a greater one.

@@ -1,5 +1,5 @@
 //! Whether an explanation holds a constraint, without memory: the pass of a withdrawal, by marks alone.
-ghost use Rattle.std.specs.Prelude.{◌≡◌, ℕ, ◌<◌, None, Some, MatchOption, length, map, slice_get, AllPairs, Contains};
+ghost use Rattle.std.specs.Prelude.{◌≡◌, ℕ, ◌<◌, Some, length, map, slice_get, AllPairs, Contains};
 ghost use Rattle.palm_base.specs.Tells.{Tells};
 ghost use Rattle.palm_base.specs.declared.terms.Pair.{Pair as PairTerm};
 ghost use Rattle.palm_model.specs.Log.{Names};
@@ -9,17 +9,9 @@ ghost use Rattle.palm_explain.specs.declared.entry.Entry.{Entry as EntryTerm};
 
 use crate::entry::{Entry, place_of};
 use crate::losing::set_mark;
-use crate::rows::Row;
+use crate::rows::{Row, row_at};
 use crate::spans::Span;
 use palm_base::{Cid, Var};
-
-/// The row of a variable, if it has one.
-#[inline(always)]
-fn row_at(rows: &[Row], var: Var) -> Option<&Row>
-    ensures { MatchOption result (slice_get rows.now var ≡ None) (λ row. slice_get rows.now var ≡ Some row.now) }
-{
-    rows.get(var.0 as usize)
-}
 
 /// Whether the removal with the number has a mark.
 #[inline(always)]

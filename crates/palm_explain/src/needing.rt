@@ -1,7 +1,7 @@
 //! Which removals the removals of values rest on: a walk down the log from one needed removal to the next. What no needed removal has
 //! among its reasons is not looked at, however many such removals stand between. A reason is removed before what it is a reason
 //! for, so that none comes up behind the walk.
-ghost use Rattle.std.specs.Prelude.{◌≡◌, ◌↔◌, ℕ, ◌<◌, [], None, Some, Contains, length, slice_get, IfOk, MatchOption, OnOk};
+ghost use Rattle.std.specs.Prelude.{◌≡◌, ◌↔◌, ℕ, ◌<◌, [], Some, Contains, length, slice_get, IfOk, OnOk};
 ghost use Rattle.palm_model.specs.Log.{IsListOf};
 ghost use Rattle.palm_explain.specs.Entries.{AreEntered, log_of, pairs_with, row_span, span_pairs, written};
 ghost use Rattle.palm_explain.specs.Explanations.{NamesOfSome};
@@ -12,7 +12,7 @@ use crate::cid_set::CidSet;
 use crate::entry::{Entry, place_of};
 use crate::noted::{NotedSpan, empty_spans, noted_of, set_noted, wider};
 use crate::places::Places;
-use crate::rows::{NO_NUMBER, Row, number_near};
+use crate::rows::{NO_NUMBER, Row, number_near, row_at};
 use crate::spans::Span;
 use palm_base::{Cid, NoMemory, Pair, Value, Var};
 use std::alloc::{AllocError, Global};
@@ -32,13 +32,6 @@ fn note_values(rows: &[Row], var: Var, values: &[Value], noted: &mut Places) -> 
         }
     }
     Ok(())
-}
-
-/// The row of a variable, if it has one.
-fn row_at(rows: &[Row], var: Var) -> Option<&Row>
-    ensures { MatchOption result (slice_get rows.now var ≡ None) (λ row. slice_get rows.now var ≡ Some row.now) }
-{
-    rows.get(var.0 as usize)
 }
 
 /// Notes the numbers of those values of a variable from `low` to `high` that were removed before the number.

@@ -3,7 +3,7 @@ ghost use Rattle.std.specs.Prelude.{◌≡◌, ◌≢◌, ◌⊎◌, ℕ, ℤ, �
 ghost use Rattle.palm_base.specs.Ascending.{Ascends};
 ghost use Rattle.palm_base.specs.declared.terms.Pair.{Pair as PairTerm};
 ghost use Rattle.palm_explain.specs.Restored.{KeepsNumbers, slot_at};
-ghost use Rattle.palm_explain.specs.Rows.{AreFormedRows, IsFormedRow, KeepsRemovals, number_at, number_in, rest_in, span_in};
+ghost use Rattle.palm_explain.specs.Rows.{AreFormedRows, IsFormedRow, KeepsRemovals, StandsAt, number_at, rest_in, span_in, value_number};
 
 use palm_base::{NoMemory, Pair, Value, Var};
 use std::alloc::{AllocError, AllocFailed, Global};
@@ -23,7 +23,7 @@ pub(crate) struct Row {
 impl Row {
     fn new(alloc: Global) -> Row
         ensures formed { IsFormedRow result }
-        ensures none { (v : ℤ) → number_in result.values.items result.numbers.items v ≡ None }
+        ensures none { (v : ℤ) → value_number result v ≡ None }
     {
         Row {
             values: Vec::new(alloc),
@@ -35,8 +35,7 @@ impl Row {
     /// Whether the value stands at the place.
     #[inline(always)]
     pub(crate) fn has_at(&self, place: usize, value: Value) -> bool
-        ensures { result ≡ true → (place < length self.now.values.items)
-            × (slice_index_or self.now.values.items place value ≡ value) }
+        ensures { result ≡ true → StandsAt self.now value place }
     {
         place < self.values.len() && self.values[place] == value
     }
@@ -45,7 +44,7 @@ impl Row {
     /// first wraps, to a place behind any row's end.
     #[inline(always)]
     fn gapless_place(&self, value: Value) -> Option<usize>
-        ensures { IfSome result (λ place. (place < length self.now.values.items) × (slice_index_or self.now.values.items place value ≡ value)) }
+        ensures { IfSome result (StandsAt self.now value) }
     {
         let first = self.values.first()?;
         let place = value.0.wrapping_sub(first.0).cast_unsigned() as usize;
@@ -56,28 +55,15 @@ impl Row {
         }
     }
 
-    /// The place of a value.
-    #[inline(always)]
+    /// The place of a value. (Out of line, so that its caller is small where it goes without.)
+    #[inline(never)]
     fn place_of(&self, value: Value) -> Option<usize>
         requires { IsFormedRow self.now }
-        ensures { MatchOption result
-            (number_in self.now.values.items self.now.numbers.items value ≡ None)
-            (λ place. (place < length self.now.values.items) × (slice_index_or self.now.values.items place value ≡ value)) }
+        ensures { MatchOption result (value_number self.now value ≡ None) (StandsAt self.now value) }
     {
-        match self.gapless_place(value) {
-            Some(place) => Some(place),
-            None => self.sparse_place(value),
+        if let Some(place) = self.gapless_place(value) {
+            return Some(place);
         }
-    }
-
-    /// The place of a value, whatever numbers the row leaves out. (Out of line, so that its caller is small where it goes without.)
-    #[inline(never)]
-    fn sparse_place(&self, value: Value) -> Option<usize>
-        requires { IsFormedRow self.now }
-        ensures { MatchOption result
-            (number_in self.now.values.items self.now.numbers.items value ≡ None)
-            (λ place. (place < length self.now.values.items) × (slice_index_or self.now.values.items place value ≡ value)) }
-    {
         match self.values.binary_search(&value) {
             Ok(place) => Some(place),
             Err(_) => None,
@@ -88,7 +74,7 @@ impl Row {
     #[inline(always)]
     pub(crate) fn place_near(&self, value: Value, near: usize) -> usize
         requires formed { IsFormedRow self.now }
-        requires there { (k : ℕ) × (number_in self.now.values.items self.now.numbers.items value ≡ Some k) }
+        requires there { (k : ℕ) × (value_number self.now value ≡ Some k) }
         ensures { slice_get self.now.values.items result ≡ Some value }
     {
         if self.has_at(near, value) {
@@ -101,7 +87,7 @@ impl Row {
     #[inline(always)]
     pub(crate) fn number_near(&self, value: Value, near: &mut usize) -> Option<usize>
         requires { IsFormedRow self.now }
-        ensures { result ≡ number_in self.now.values.items self.now.numbers.items value }
+        ensures { result ≡ value_number self.now value }
     {
         let place = *near;
         if self.has_at(place, value) {
@@ -118,23 +104,13 @@ impl Row {
     }
 
     /// How many of the values are less.
-    #[inline(always)]
     pub(crate) fn first_from(&self, low: Value) -> usize
         requires { IsFormedRow self.now }
         ensures { (n : ℕ) (high : ℤ) → rest_in self.now n high result ≡ span_in self.now n low high }
     {
-        match self.gapless_place(low) {
-            Some(place) => place,
-            None => self.sparse_from(low),
+        if let Some(place) = self.gapless_place(low) {
+            return place;
         }
-    }
-
-    /// How many of the values are less, whatever numbers the row leaves out.
-    #[inline(never)]
-    fn sparse_from(&self, low: Value) -> usize
-        requires { IsFormedRow self.now }
-        ensures { (n : ℕ) (high : ℤ) → rest_in self.now n high result ≡ span_in self.now n low high }
-    {
         self.values.partition_point(|value| *value < low)
     }
 
@@ -162,7 +138,7 @@ impl Row {
         requires formed { IsFormedRow self.now }
         requires within { place < length self.now.values.items }
         ensures value { slice_get self.now.values.items place ≡ Some result.0 }
-        ensures number { number_in self.now.values.items self.now.numbers.items result.0 ≡ Some result.1 }
+        ensures number { value_number self.now result.0 ≡ Some result.1 }
     {
         (self.values[place], self.numbers[place])
     }
@@ -170,11 +146,10 @@ impl Row {
     /// Sets the number of a value that has one.
     fn set(&mut self, value: Value, number: usize)
         requires formed { IsFormedRow self.old }
-        requires there { (k : ℕ) × (number_in self.old.values.items self.old.numbers.items value ≡ Some k) }
+        requires there { (k : ℕ) × (value_number self.old value ≡ Some k) }
         ensures formed { IsFormedRow self.new }
-        ensures there { number_in self.new.values.items self.new.numbers.items value ≡ Some number }
-        ensures others { (v : ℤ) → (v ≡ value → ⊥)
-            → number_in self.new.values.items self.new.numbers.items v ≡ number_in self.old.values.items self.old.numbers.items v }
+        ensures there { value_number self.new value ≡ Some number }
+        ensures others { (v : ℤ) → (v ≡ value → ⊥) → value_number self.new v ≡ value_number self.old v }
         ensures slot { self.new.slot ≡ self.old.slot }
     {
         let place = self.place_of(value).unwrap();
@@ -182,34 +157,17 @@ impl Row {
     }
 
     /// Sets the number of a value; without memory nothing changes.
-    #[inline(always)]
     fn put(&mut self, value: Value, number: usize) -> Result<(), NoMemory>
         requires { IsFormedRow self.old }
         ensures formed { IsFormedRow self.new }
-        ensures there { OnOk result (number_in self.new.values.items self.new.numbers.items value ≡ Some number) }
-        ensures err { OnErr result ((v : ℤ) → number_in self.new.values.items self.new.numbers.items v ≡ number_in self.old.values.items self.old.numbers.items v) }
-        ensures others { (v : ℤ) → (v ≡ value → ⊥)
-            → number_in self.new.values.items self.new.numbers.items v ≡ number_in self.old.values.items self.old.numbers.items v }
+        ensures there { OnOk result (value_number self.new value ≡ Some number) }
+        ensures err { OnErr result ((v : ℤ) → value_number self.new v ≡ value_number self.old v) }
+        ensures others { (v : ℤ) → (v ≡ value → ⊥) → value_number self.new v ≡ value_number self.old v }
     {
-        match self.gapless_place(value) {
-            Some(place) => {
-                self.numbers[place] = number;
-                Ok(())
-            }
-            None => self.put_sparse(value, number),
+        if let Some(place) = self.gapless_place(value) {
+            self.numbers[place] = number;
+            return Ok(());
         }
-    }
-
-    /// Sets the number of a value, whatever numbers the row leaves out; without memory nothing changes.
-    #[inline(never)]
-    fn put_sparse(&mut self, value: Value, number: usize) -> Result<(), NoMemory>
-        requires { IsFormedRow self.old }
-        ensures formed { IsFormedRow self.new }
-        ensures there { OnOk result (number_in self.new.values.items self.new.numbers.items value ≡ Some number) }
-        ensures err { OnErr result ((v : ℤ) → number_in self.new.values.items self.new.numbers.items v ≡ number_in self.old.values.items self.old.numbers.items v) }
-        ensures others { (v : ℤ) → (v ≡ value → ⊥)
-            → number_in self.new.values.items self.new.numbers.items v ≡ number_in self.old.values.items self.old.numbers.items v }
-    {
         match self.values.binary_search(&value) {
             Ok(place) => self.numbers[place] = number,
             Err(place) => {
@@ -226,9 +184,10 @@ impl Row {
         requires formed { IsFormedRow self.old }
         requires ascend { Ascends values.now }
         ensures formed { IsFormedRow self.new }
-        ensures stay { (v : ℤ) (k : ℕ) → number_in self.old.values.items self.old.numbers.items v ≡ Some k → number_in self.new.values.items self.new.numbers.items v ≡ Some k }
-        ensures only { (v : ℤ) (k : ℕ) → number_in self.new.values.items self.new.numbers.items v ≡ Some k
-            → (number_in self.old.values.items self.old.numbers.items v ≡ Some k) ⊎ (k ≡ NO_NUMBER) }
+        ensures stay { (v : ℤ) (k : ℕ) → value_number self.old v ≡ Some k
+            → value_number self.new v ≡ Some k }
+        ensures only { (v : ℤ) (k : ℕ) → value_number self.new v ≡ Some k
+            → (value_number self.old v ≡ Some k) ⊎ (k ≡ NO_NUMBER) }
     {
         if !self.values.is_empty() {
             return Ok(());
@@ -252,6 +211,14 @@ pub(crate) fn number_near(rows: &[Row], pair: &Pair, near: &mut usize) -> Option
     row.number_near(pair.value, near)
 }
 
+/// The row of a variable, if it has one.
+#[inline(always)]
+pub(crate) fn row_at(rows: &[Row], var: Var) -> Option<&Row>
+    ensures { MatchOption result (slice_get rows.now var ≡ None) (λ row. slice_get rows.now var ≡ Some row.now) }
+{
+    rows.get(var.0 as usize)
+}
+
 /// The row of a variable.
 #[inline(always)]
 pub(crate) fn row_of(rows: &[Row], var: Var) -> &Row
@@ -271,6 +238,7 @@ pub(crate) fn number_of(rows: &[Row], pair: &Pair) -> Option<usize>
 }
 
 /// Makes a row for each of the first variables, so many of them; all numbers stay.
+#[inline(always)]
 fn reach(rows: &mut Vec<Row>, variables: usize) -> Result<(), NoMemory>
     requires { AreFormedRows rows.old.items }
     ensures formed { AreFormedRows rows.new.items }

@@ -11,7 +11,7 @@ ghost use Rattle.palm_explain.specs.Needed.{AreNeeded};
 ghost use Rattle.palm_explain.specs.Explanations.{AreEnds, AreSpanned, IsLinked, IsSpanned, LacksExactly, NamesOfSome, log_bys, reasons_of, restored_vars};
 
 use crate::entry::{Entry, place_of};
-use crate::firsts::{Firsts, note_next};
+use crate::firsts::Firsts;
 use crate::losing::lose_each;
 use crate::naming::names_at;
 use crate::needing::{add_needed, cids_of};
@@ -82,7 +82,7 @@ impl ExplainStore {
         ensures err { OnErr result (self.new ≡ self.old) }
     {
         let spans = spans_of(*self.log.allocator(), &self.rows, reasons)?;
-        self.put(pair, by, spans)
+        self.enter_spans(pair, by, spans.as_slice())
     }
 
     /// Adds a removal behind the others, whose reasons are the removals that the spans stand for; without memory nothing changes.
@@ -93,32 +93,21 @@ impl ExplainStore {
             → OnOk result (self.new ≡ record self.old { log = self.old.log ++ record { pair = pair; by = by; reasons = reasons } ∷ [] }) }
         ensures err { OnErr result (self.new ≡ self.old) }
     {
-        let own = SmallVec::from_slice(*self.log.allocator(), spans)?;
-        self.put(pair, by, own)
-    }
-
-    /// Adds a removal with these spans behind the others; without memory nothing changes.
-    fn put(&mut self, pair: Pair, by: Cid, spans: SmallVec<Span, 2>) -> Result<(), NoMemory>
-        requires fresh { Contains (log_pairs self.old.log) pair → ⊥ }
-        requires spanned { (reasons : List PairTerm) × AreSpanned (log_pairs self.old.log) spans.items reasons }
-        ensures ok { (reasons : List PairTerm) → AreSpanned (log_pairs self.old.log) spans.items reasons
-            → OnOk result (self.new ≡ record self.old { log = self.old.log ++ record { pair = pair; by = by; reasons = reasons } ∷ [] }) }
-        ensures err { OnErr result (self.new ≡ self.old) }
-    {
         let number = self.next;
-        if number == NO_NUMBER || count_of(spans.as_slice()).is_none() {
+        if number == NO_NUMBER || count_of(spans).is_none() {
             return Err(NoMemory);
         }
+        let own = SmallVec::from_slice(*self.log.allocator(), spans)?;
         self.restored.reserve(self.log.len() + 1)?;
         self.log.reserve(1)?;
-        note_next(&mut self.firsts, &self.log, &by, number)?;
+        self.firsts.note(&self.log, &by, number)?;
         put_number(&mut self.rows, &pair, number)?;
         self.log.push_reserved(Entry {
             number,
             pair,
             by,
             mark: false,
-            spans,
+            spans: own,
         });
         self.next = number + 1;
         Ok(())

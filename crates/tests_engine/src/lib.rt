@@ -32,6 +32,8 @@ mod shapes;
 #[cfg(test)]
 mod slow;
 #[cfg(test)]
+mod spans;
+#[cfg(test)]
 mod texts;
 #[cfg(test)]
 mod twins;

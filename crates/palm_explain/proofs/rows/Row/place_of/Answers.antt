@@ -1,5 +1,5 @@
 use Rattle.palm_explain.proofs.RowNumbers.{between_free, between_in, found_in, number_none}
-use Rattle.palm_explain.proofs.rows.Row.sparse_place.Goals as goal
+use Rattle.palm_explain.proofs.rows.Row.place_of.Goals as goal
 
 pub returns-in-Ok : goal.returns-in-Ok
 returns-in-Ok c = found_in c.args.self.now.values.items c.args.value c.binary_search.result c.in-Ok.place c.in-Ok.is (rw c.deref.ensures.value at c.binary_search.ensures.bound) (rw c.deref.ensures.value at c.binary_search.ensures.position)

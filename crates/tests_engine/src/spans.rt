@@ -1,0 +1,120 @@
+//! A log that is handed spans: each removal has the reasons that they stand for, whether the values were declared or not.
+ghost use Rattle.std.specs.Prelude.{◌≡◌, ℤ, pos, ◌<◌, ◌≤◌, List, Contains};
+ghost use Rattle.palm_base.specs.Tells.{Tells};
+ghost use Rattle.palm_explain.specs.Explanations.{IsSpanOf};
+ghost use Rattle.palm_model.specs.Log.{log_pairs};
+
+use crate::calls::pair;
+use crate::removals::{Because, removals_of, removed};
+use palm_base::{Cid, NoMemory, Pair, Value, Var};
+use palm_explain::{ExplainStore, Span};
+use std::alloc::Global;
+use std::process::Abort;
+use std::test::Fail;
+
+/// Whether the pair is removed.
+fn has(log: &ExplainStore, pair: Pair) -> bool
+    ensures { Tells result (Contains (log_pairs log.now.log) pair) }
+{
+    match log.place_of(pair) {
+        Some(_) => true,
+        None => false,
+    }
+}
+
+/// The value of this number.
+fn value_of(number: u8) -> Value
+    ensures { result ≡ pos number }
+{
+    Value(i32::from(number))
+}
+
+/// The span of those of the variable's values from `low` to `high` that are removed.
+fn span_between(log: &ExplainStore, var: u32, low: u8, high: u8) -> Span
+    requires order { low ≤ high }
+    requires most { high < 255 }
+    ensures { (values : List ℤ) × IsSpanOf (log_pairs log.now.log) result values }
+{
+    let mut count = 0;
+    for value in low..high + 1 {
+        let value = value_of(value);
+        if has(
+            log,
+            Pair {
+                var: Var(var),
+                value,
+            },
+        ) {
+            count += 1;
+        }
+    }
+    Span {
+        var: Var(var),
+        low: value_of(low),
+        high: value_of(high),
+        count,
+    }
+}
+
+/// Enters the pair by the user's constraint of this number, where it is not removed. Its reasons are the removed ones of the
+/// variable's values from `low` to `high`.
+fn remove_for(
+    log: &mut ExplainStore,
+    gone: &Pair,
+    by: u32,
+    var: u32,
+    low: u8,
+    high: u8,
+) -> Result<(), NoMemory>
+    requires order { low ≤ high }
+    requires most { high < 255 }
+{
+    let Pair { var: own, value } = *gone;
+    if has(log, Pair { var: own, value }) {
+        return Ok(());
+    }
+    let span = span_between(log, var, low, high);
+    log.enter_spans(Pair { var: own, value }, Cid::User(by), &[span])
+}
+
+/// Tells the values of x, which leave out 4, and takes values of x and of y out.
+fn remove_six(log: &mut ExplainStore) -> Result<(), NoMemory> {
+    log.declare(Var(0), &[Value(1), Value(2), Value(3), Value(5)])?;
+    remove_for(log, &pair(0, 2), 1, 1, 0, 254)?;
+    remove_for(log, &pair(0, 5), 2, 0, 1, 3)?;
+    remove_for(log, &pair(0, 1), 3, 0, 1, 9)?;
+    remove_for(log, &pair(1, 7), 4, 0, 0, 3)?;
+    log.declare(Var(1), &[Value(6), Value(7)])?;
+    remove_for(log, &pair(0, 3), 5, 1, 7, 7)?;
+    remove_for(log, &pair(1, 6), 6, 0, 2, 5)
+}
+
+/// Asserts that a new log has the six removals, each at its place.
+fn assert_spans_entered(rt: &impl Abort, alloc: Global) -> Result<(), NoMemory> {
+    let mut log = ExplainStore::new(alloc);
+    remove_six(&mut log)?;
+    let expected = [
+        removed(pair(0, 2), 1, Because::Nothing),
+        removed(pair(0, 5), 2, Because::One(pair(0, 2))),
+        removed(pair(0, 1), 3, Because::Two(pair(0, 2), pair(0, 5))),
+        removed(pair(1, 7), 4, Because::Two(pair(0, 1), pair(0, 2))),
+        removed(pair(0, 3), 5, Because::One(pair(1, 7))),
+        removed(
+            pair(1, 6),
+            6,
+            Because::Three(pair(0, 2), pair(0, 3), pair(0, 5)),
+        ),
+    ];
+    assert_eq!(rt; removals_of(alloc, &log)?.as_slice(), expected.as_slice());
+    for (place, removal) in expected.iter().enumerate() {
+        assert_eq!(rt; log.place_of(removal.pair), Some(place));
+    }
+    assert_eq!(rt; log.place_of(pair(0, 4)), None);
+    Ok(())
+}
+
+#[test]
+fn a_log_has_the_reasons_of_its_spans(rt: HostRuntime) -> Result<(), Fail> {
+    assert_spans_entered(&rt, rt.alloc())?;
+    Ok(())
+}
