@@ -1,5 +1,5 @@
 -- Marks of constraints that are set one by one.
-use Rattle.std.proofs.Common.{◌≡◌, ◌≢◌, ℕ, zero, suc, ◌<◌, Option, None, All, Bool, true, false, ◌||◌, Some, List, [], ◌∷◌, ◌++◌, map, length, replicate, inl, inr, refl, sym, ap, ◌∙◌, arith, nat_eq}
+use Rattle.std.proofs.Common.{◌≡◌, ◌≢◌, ℕ, zero, suc, ◌<◌, All, Bool, true, false, ◌||◌, Some, List, [], ◌∷◌, ◌++◌, map, length, replicate, inl, inr, refl, sym, ap, ◌∙◌, arith, nat_eq}
 use Rattle.std.specs.Prelude.{IfSome, slice_get, slice_set}
 use Rattle.std.proofs.lemmas.List.Elements.{All-contains}
 use Rattle.std.proofs.Math.Bool.{or-true}
@@ -15,18 +15,19 @@ use Rattle.palm_base.specs.Order.{same_cid}
 use Rattle.palm_model.specs.Log.{Removal}
 use Rattle.palm_cert.specs.Certificate.{is_cited}
 use Rattle.palm_cert.specs.Needs.{cites_of}
+use Rattle.palm_claim.proofs.cited.ProvedSteps.{some_at}
 
 -- ---- one mark more
+
+or_last : (b c : Bool) → c ≡ false → b ≡ (b || c)
+or_last true c e = refl
+or_last false c e = sym e
 
 module _ {X : Type 0} (f h : X → Bool) where
   -- where none passes the second test
   pub or_none : (xs : List X) → ((j : ℕ) (y : X) → slice_get xs j ≡ Some y → h y ≡ false) → map f xs ≡ map (λ y. f y || h y) xs
   or_none [] none = refl
   or_none (x ∷ xs) none = rw (← or_none xs (λ j y at. none (suc j) y at)) (ap (λ b. b ∷ map f xs) (or_last (f x) (h x) (none 0 x refl)))
-    where
-      or_last : (b c : Bool) → c ≡ false → b ≡ (b || c)
-      or_last true c e = refl
-      or_last false c e = sym e
 
   -- where the one at the place alone passes it
   pub or_one : (xs : List X) (k : ℕ) (x : X) → slice_get xs k ≡ Some x → h x ≡ true → ((j : ℕ) (y : X) → slice_get xs j ≡ Some y → (j ≡ k → ⊥) → h y ≡ false)
@@ -39,10 +40,6 @@ module _ {X : Type 0} (f h : X → Bool) where
       let none : h y ≡ false = others 0 y refl (λ n. absurd (omega (arith, n))) in
       let e = or_one xs k x at here (λ j z is n. others (suc j) z is (λ m. n (omega (arith, m)))) in
       rw (e, ← or_last (f y) (h y) none) refl
-    where
-      or_last : (b c : Bool) → c ≡ false → b ≡ (b || c)
-      or_last true c e = refl
-      or_last false c e = sym e
 
 pub uncited : (cs : List BookCon) → replicate (length cs) false ≡ map (is_cited []) cs
 uncited [] = refl
@@ -86,16 +83,6 @@ cites_one book is rs r n place c e at number =
     (λ j d there other. by_number r n d e ∙ or_from (nat_eq n d.number) false (ne_eqb n d.number (λ s. other (same_number book is j place d c there at (sym s ∙ sym number)))) refl)
     ∙ cites_more book rs r
 
-some_number : (o : Option BookCon) (c : BookCon) (n : ℕ) → o ≡ Some c → IfSome o (λ d. d.number ≡ n) → c.number ≡ n
-some_number None c n e h = absurd (none-some c e)
-some_number (Some d) c n e h = ap (λ (z : BookCon). z.number) (sym (same_Some d c e)) ∙ h
-
-some_entry : (cs : List BookCon) (place : ℕ) → place < length cs → (c : BookCon) × (slice_get cs place ≡ Some c)
-some_entry [] place lt = absurd (omega (arith, lt))
-some_entry (c ∷ cs) zero lt = (c, refl)
-some_entry (c ∷ cs) (suc place) lt = some_entry cs place (omega (arith, lt))
-
 pub cites_found : (book : Contents) → IsBook book → (rs : List Removal) (r : Removal) (n place : ℕ) → r.by ≡ User n → IfSome (slice_get book.constraints place) (λ c. c.number ≡ n) × (place < length book.constraints) → slice_set (cites_of book rs) place true ≡ cites_of book (rs ++ r ∷ [])
 cites_found book is rs r n place e found =
-    let c = some_entry book.constraints place found.1 in
-    cites_one book is rs r n place c.0 e c.1 (some_number (slice_get book.constraints place) c.0 n c.1 found.0)
+    let c = some_at book.constraints place found.1 in cites_one book is rs r n place c.0 e c.1 (rw c.1 at found.0)

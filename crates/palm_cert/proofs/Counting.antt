@@ -1,17 +1,10 @@
 -- Variables one by one.
-use Rattle.std.proofs.Common.{◌≡◌, ℕ, ◌+◌, ◌<◌, ◌≤◌, Bool, true, false, cond, List, [], ◌∷◌, ◌++◌, length, take, drop, get_or, filter, flat_map, refl, sym, ap, ◌∙◌, arith, zero-add}
+use Rattle.std.proofs.Common.{◌≡◌, ℕ, ◌+◌, ◌<◌, ◌≤◌, Bool, List, [], ◌∷◌, ◌++◌, length, take, drop, get_or, filter, flat_map, sym, ap, ◌∙◌, arith, zero-add}
 use Rattle.std.specs.List.{range_with_len}
 use Rattle.std.proofs.lemmas.Grind.{flat_map-append}
 use Rattle.std.proofs.lemmas.List.{take-append-drop, take_all, take_more}
 use Rattle.std.proofs.lemmas.List.FromFn.{get_or-range_with_len, length-range_with_len}
-
-filter_both : (p : ℕ → Bool) (xs ys : List ℕ) → filter p (xs ++ ys) ≡ filter p xs ++ filter p ys
-filter_both p [] ys = refl
-filter_both p (x ∷ xs) ys = ap (λ zs. cond (p x) (x ∷ zs) zs) (filter_both p xs ys) ∙ out (p x)
-  where
-    out : (b : Bool) → cond b (x ∷ filter p xs ++ filter p ys) (filter p xs ++ filter p ys) ≡ cond b (x ∷ filter p xs) (filter p xs) ++ filter p ys
-    out true = refl
-    out false = refl
+use Rattle.std.proofs.lemmas.List.Elements.{filter-append}
 
 range_more : (n i : ℕ) → i < n → take (i + 1) (range_with_len 0 n) ≡ take i (range_with_len 0 n) ++ i ∷ []
 range_more n i lt =
@@ -25,7 +18,7 @@ module _ (f : ℕ → List ℕ) (p : ℕ → Bool) (n : ℕ) where
   below i = flat_map f (filter p (take i (range_with_len 0 n)))
 
   both : (xs ys : List ℕ) → flat_map f (filter p (xs ++ ys)) ≡ flat_map f (filter p xs) ++ flat_map f (filter p ys)
-  both xs ys = ap (λ (zs : List ℕ). flat_map f zs) (filter_both p xs ys) ∙ flat_map-append f (filter p xs) (filter p ys)
+  both xs ys = ap (λ (zs : List ℕ). flat_map f zs) (filter-append p xs ys) ∙ flat_map-append f (filter p xs) (filter p ys)
 
   pub below_more : (i : ℕ) → i < n → below i ++ flat_map f (filter p (i ∷ [])) ≡ below (i + 1)
   below_more i lt = sym (both (take i (range_with_len 0 n)) (i ∷ [])) ∙ ap (λ (xs : List ℕ). flat_map f (filter p xs)) (sym (range_more n i lt))

@@ -1,10 +1,10 @@
 -- The variables of a certificate: those of the book that are used, each with the number of its place among them.
-use Rattle.std.proofs.Common.{◌≡◌, ◌≢◌, ℕ, zero, suc, ◌<◌, Bool, true, false, cond, Some, List, [], ◌∷◌, length, map, get_or, All, AllPairs, Contains, nat_eq, eq-eqb, eqb-true, refl, sym, ap, ◌∙◌, subst, arith}
+use Rattle.std.proofs.Common.{◌≡◌, ◌≢◌, ℕ, suc, ◌<◌, Bool, true, false, cond, Some, option_map, List, [], ◌∷◌, length, map, get_or, All, AllPairs, Contains, nat_eq, eq-eqb, eqb-true, refl, sym, ap, ◌∙◌, subst, arith}
 use Rattle.std.specs.Prelude.{slice_get}
 use Rattle.std.proofs.lemmas.Bool.{false≢true}
 use Rattle.std.proofs.lemmas.List.{get_or-map, length-map}
 use Rattle.std.proofs.lemmas.List.Elements.{Contains-get_or}
-use Rattle.std.proofs.lemmas.Option.{get_or_from_slice_get, none-some, same_Some, slice_get_within}
+use Rattle.std.proofs.lemmas.Option.{get_or_from_slice_get, slice_get-map, slice_get_within}
 use Rattle.palm_base.proofs.cited.Members.{all_members, member_get, member_nil, member_same, member_tail, member_unmap}
 use Rattle.palm_book.specs.Book.{BookVar, name_of, values_at}
 use Rattle.palm_book.specs.Named.{Resolves, named}
@@ -26,11 +26,6 @@ placed_cases y x ys false e rest m = rest (member_tail y ys x (λ s. false≢tru
 pub placed : (xs : List ℕ) (x : ℕ) → Contains xs x → slice_get xs (place_in xs x) ≡ Some x
 placed [] x m = absurd (member_nil x m)
 placed (y ∷ ys) x m = placed_cases y x ys (nat_eq y x) refl (placed ys x) m
-
-get_map : {X Y : Type 0} (f : X → Y) (xs : List X) (k : ℕ) (x : X) → slice_get xs k ≡ Some x → slice_get (map f xs) k ≡ Some (f x)
-get_map f [] k x at = absurd (none-some x at)
-get_map f (y ∷ xs) zero x at = ap (λ z. Some (f z)) (same_Some y x at)
-get_map f (y ∷ xs) (suc k) x at = get_map f xs k x at
 
 module _ (variables : List BookVar) where
   -- the variable's name and values
@@ -60,7 +55,7 @@ module _ (variables : List BookVar) where
 
   module _ (xs : List ℕ) (x : ℕ) (m : Contains xs x) where
     entry_placed : slice_get (entries xs) (place_in xs x) ≡ Some (entry x)
-    entry_placed = get_map entry xs (place_in xs x) x (placed xs x m)
+    entry_placed = slice_get-map entry xs (place_in xs x) ∙ ap (option_map entry) (placed xs x m)
 
     pub place_declared : place_in xs x < length (entries xs)
     place_declared = slice_get_within (entries xs) (place_in xs x) (entry x) entry_placed

@@ -15,7 +15,7 @@ use palm_listed::Listed;
 use palm_read::{Cursor, LineError, Name};
 use std::alloc::Global;
 use std::mem;
-use text_check::{Body, check_step, check_wiped};
+use text_check::{Body, check_step, check_wiped, is_among};
 
 /// What is kept of a certificate besides what it lists.
 #[derive(Drop)]
@@ -152,16 +152,16 @@ impl CertificateBody {
     }
 
     /// Takes the claim that a value is gone.
-    fn claim_value(&mut self, listed: &mut Listed, name: &Name, value: Value) -> Option<Cause>
+    fn claim_value(&mut self, listed: &Listed, name: &Name, value: Value) -> Option<Cause>
         requires stands { IsOpen self.old.stage }
-        requires kept { IsKept listed.old self.old }
-        ensures takes { TakesPhrase (said listed.old.book self.old) (phrases.ValueClaim name.now value) result (said listed.new.book self.new) }
-        ensures kept { IsKept listed.new self.new }
+        requires kept { IsKept listed.now self.old }
+        ensures takes { TakesPhrase (said listed.now.book self.old) (phrases.ValueClaim name.now value) result (said listed.now.book self.new) }
+        ensures kept { IsKept listed.now self.new }
     {
         let Some(pair) = listed.declared_pair(name, value) else {
             return Some(Cause::Misdeclared);
         };
-        if !listed.is_gone(&pair, &self.proved) {
+        if !is_among(&self.proved, &pair) {
             return Some(Cause::NotReached);
         }
         self.stage = Stage::Claimed(Claim::Gone(pair));

@@ -1,12 +1,12 @@
 //! Reading the phrases of certificates.
 ghost use Rattle.std.specs.Prelude.{◌≡◌};
-ghost use Rattle.palm_claim.specs.Reader.{claim_at, header_at, is_lead, phrase_at, step_at};
+ghost use Rattle.palm_claim.specs.Reader.{claim_at, is_lead, phrase_at, step_at};
 ghost use Rattle.palm_read.specs.Reader.Held.{Gives};
 
 use palm_claim::CertificatePhrase;
-use palm_read::{Cursor, LineError, Name, TokenKind};
+use palm_read::{Cursor, LineError, Name};
 use std::alloc::Global;
-use text_check::{read_reasons, read_value};
+use text_check::{read_header, read_reasons, read_value};
 
 /// Whether a phrase begins with the word.
 pub fn is_lead(word: &[u8]) -> bool
@@ -19,7 +19,7 @@ pub fn is_lead(word: &[u8]) -> bool
 }
 
 /// Reads a phrase by its first word.
-#[tactic(auto, unfolding(palm_claim::specs::Reader::phrase_at, palm_read::specs::Reader::Steps::when))]
+#[tactic(auto, unfolding(palm_claim::specs::Reader::phrase_at, palm_read::specs::Reader::Steps::when, palm_read::specs::Reader::Steps::and_then))]
 pub fn read_phrase(cursor: &mut Cursor<'_>, alloc: Global) -> Result<CertificatePhrase, LineError>
     ensures { Gives (λ phrase. phrase) result cursor.new (phrase_at cursor.old) }
 {
@@ -30,21 +30,9 @@ pub fn read_phrase(cursor: &mut Cursor<'_>, alloc: Global) -> Result<Certificate
     } else if cursor.takes_word(b"end") {
         Ok(CertificatePhrase::End)
     } else {
-        header(cursor)
+        read_header(cursor, b"cert")?;
+        Ok(CertificatePhrase::Header)
     }
-}
-
-#[tactic(auto, unfolding(palm_claim::specs::Reader::header_at, palm_read::specs::Reader::Steps::and_then))]
-fn header(cursor: &mut Cursor<'_>) -> Result<CertificatePhrase, LineError>
-    ensures { Gives (λ phrase. phrase) result cursor.new (header_at cursor.old) }
-{
-    cursor.keyword(b"palm")?;
-    cursor.sign(b"-")?;
-    cursor.keyword(b"cert")?;
-    if !cursor.takes(TokenKind::Digits, b"1") {
-        return Err(LineError::Form);
-    }
-    Ok(CertificatePhrase::Header)
 }
 
 #[tactic(auto, unfolding(palm_claim::specs::Reader::step_at, palm_read::specs::Reader::Steps::and_then))]

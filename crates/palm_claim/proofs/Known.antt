@@ -1,5 +1,5 @@
 -- Every text has a verdict: whatever is asked of a line is known.
-use Rattle.std.proofs.Common.{◌≡◌, ℕ, ◌<◌, List, length, inl, inr, refl}
+use Rattle.std.proofs.Common.{◌≡◌, ℕ, ◌<◌, List, length, inl, refl}
 use Rattle.palm_base.specs.First.{IsNone}
 use Rattle.palm_base.proofs.cited.Members.{Known, known_not}
 use Rattle.palm_read.proofs.cited.KnownLimits.{above_known, known_either}
@@ -10,7 +10,7 @@ use Rattle.palm_claim.specs.Verdict.{HasUnproved, IsMisdeclared, IsNotReached, I
 use Rattle.palm_claim.specs.declared.statement.CertificatePhrase.{CertificatePhrase}
 use Rattle.palm_claim.specs.declared.statement.CertificatePhrase.TheVariants.{Header, Step, ValueClaim, ConflictClaim, End}
 use Rattle.palm_claim.specs.declared.statement.Stage.{Stage}
-use Rattle.palm_claim.specs.declared.statement.Stage.TheVariants.{Unopened, Declaring, Listing, Proving, Claimed, Closed}
+use Rattle.palm_claim.specs.declared.statement.Stage.TheVariants.{Declaring, Listing, Proving, Claimed, Closed}
 use Rattle.palm_claim.specs.declared.statement.Statement.{Statement}
 use Rattle.palm_claim.specs.declared.statement.Statement.TheVariants.{Comment, Variable, Constraint, Phrase}
 use Rattle.palm_claim.specs.declared.verdict.Claim.{Claim}
@@ -23,17 +23,10 @@ use Rattle.palm_claim.proofs.cited.Judged.{has_verdict}
 use Rattle.palm_claim.proofs.cited.Listing.{ArePhrasesKnown, NamesApart, is_known, leads_apart, none_apart}
 use Rattle.palm_claim.proofs.cited.Phrases.{are_phrases}
 use Rattle.palm_claim.proofs.cited.Unique.{certificates_keep}
+use Rattle.palm_claim.proofs.Stages.{is_declaring, is_unopened}
 use Rattle.palm_claim.proofs.cited.Asked.{known_never, settled, variable_known, constraint_known, declared_known, pair_with, right_known, reached_known, asked_of_pair, asked_of_variable}
 
 -- ---- the order of the lines
-
-is_unopened : (stage : Stage) → Known (stage ≡ Unopened)
-is_unopened Unopened = inl refl
-is_unopened _ = inr (λ e. cc)
-
-is_declaring : (stage : Stage) → Known (stage ≡ Declaring)
-is_declaring Declaring = inl refl
-is_declaring _ = inr (λ e. cc)
 
 list_known : (stage : Stage) → Known (MayList stage)
 list_known Declaring = inl tt

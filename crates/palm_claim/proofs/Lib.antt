@@ -1,2 +1,3 @@
 pub mod cited
 pub mod Known
+pub mod Stages

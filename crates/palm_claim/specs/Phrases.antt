@@ -1,9 +1,10 @@
 -- What lines say in texts that list variables and constraints as a session of version 2 does, and say all else in phrases of
 -- their own. Certificates and proofs are such texts.
-use Rattle.std.specs.Prelude.{◌≡◌, ℕ, ◌≤◌, Bool, true, false, Option, Some, None, List, length, codes}
+use Rattle.std.specs.Prelude.{◌≡◌, ℕ, ◌≤◌, Bool, true, false, Option, Some, None, List, [], ◌∷◌, length, codes}
 use Rattle.palm_read.specs.Bytes.{IsComment, IsPlain}
 use Rattle.palm_read.specs.Form.{Form}
 use Rattle.palm_read.specs.Grammar.{IsForm}
+use Rattle.palm_read.specs.Piece.{numeral, sign, word}
 use Rattle.palm_read.specs.Reader.Steps.{Reading, ◌>>=◌, choose, front_text, is_empty}
 use Rattle.palm_read.specs.Reading.{IsRead}
 use Rattle.palm_read.specs.Token.{Lexeme, tokens_of}
@@ -21,6 +22,10 @@ pub record Phrases (P : Type 0) : Type 1 where
   pub phrase_at : List Lexeme → Reading P
   pub IsSpelled : List Lexeme → P → Type 0
   pub AreInRange : P → Type 0
+
+-- the header of a text of this kind: "palm" "-", the kind and "1", the last without leading zeros
+abbrev pub header_of : List ℕ → List Lexeme
+header_of kind = word (codes "palm") ∷ sign (codes "-") ∷ word kind ∷ numeral (codes "1") ∷ []
 
 -- what a line says
 abbrev pub Says : {P : Type 0} → Phrases P → List ℕ → Statement P → Type 0

@@ -20,8 +20,12 @@ value_at tokens = do
   v ← integer_at tokens
   choose (is_value v.0) (Some v) None
 
+-- a number counted from 1, up to this one
+abbrev pub is_number : ℕ → ℕ → Bool
+is_number most k = nat_le 1 k && nat_le k most
+
 abbrev pub is_step_number : ℕ → Bool
-is_step_number k = nat_le 1 k && nat_le k 4294967295
+is_step_number k = is_number 4294967295 k
 
 -- a number, where one is in front
 unfoldable pub next_number : List Lexeme → Reading (Option ℕ)
@@ -64,20 +68,22 @@ claim_at tokens = do
         value ← value_at name.1
         Some (ValueClaim name.0 value.0, value.1))
 
-unfoldable pub header_at : List Lexeme → Reading CertificatePhrase
-header_at tokens = do
+-- the header of a text of this kind
+unfoldable pub header_at : List ℕ → List Lexeme → Option (List Lexeme)
+header_at kind tokens = do
   first ← keyword_at (codes "palm") tokens
   second ← mark_at (codes "-") first
-  third ← keyword_at (codes "cert") second
-  rest ← behind Digits (codes "1") third
-  Some (Header, rest)
+  third ← keyword_at kind second
+  behind Digits (codes "1") third
 
 unfoldable pub phrase_at : List Lexeme → Reading CertificatePhrase
 phrase_at tokens =
     when (keyword_at (codes "step") tokens) step_at
     (when (keyword_at (codes "claim") tokens) claim_at
     (when (keyword_at (codes "end") tokens) (λ rest. Some (End, rest))
-    (header_at tokens)))
+    (do
+      rest ← header_at (codes "cert") tokens
+      Some (Header, rest))))
 
 -- the first words of these forms
 abbrev pub is_lead : List ℕ → Bool

@@ -2,18 +2,14 @@
 use Rattle.std.specs.Prelude.{◌≡◌, ℕ, ℤ, List, [], ◌∷◌, map, All, codes, ⊤}
 use Rattle.palm_model.specs.Limits.{IsValue}
 use Rattle.palm_read.specs.Bounds.{IsFromOneTo}
-use Rattle.palm_read.specs.Piece.{Piece, Keyword, Named, Integer, Natural, Spells, numeral, word, sign}
+use Rattle.palm_read.specs.Piece.{Piece, Keyword, Named, Integer, Natural, Spells}
 use Rattle.palm_read.specs.Token.{Lexeme}
 use Rattle.palm_claim.specs.Phrases as of_texts
-use Rattle.palm_claim.specs.Phrases.{Phrases}
+use Rattle.palm_claim.specs.Phrases.{Phrases, header_of}
 use Rattle.palm_claim.specs.Reader.{is_lead, phrase_at}
 use Rattle.palm_claim.specs.declared.statement.CertificatePhrase.{CertificatePhrase}
 use Rattle.palm_claim.specs.declared.statement.CertificatePhrase.TheVariants.{Header, Step, ValueClaim, ConflictClaim, End}
 use Rattle.palm_claim.specs.declared.statement.Statement.{Statement}
-
--- "palm" "-" "cert" "1", the last without leading zeros
-abbrev pub header : List Lexeme
-header = word (codes "palm") ∷ sign (codes "-") ∷ word (codes "cert") ∷ numeral (codes "1") ∷ []
 
 -- "from" K { K }, or nothing
 abbrev pub reasons_pieces : List ℕ → List Piece
@@ -34,7 +30,7 @@ conflict_claim_pieces name = Keyword (codes "claim") ∷ Keyword (codes "conflic
 
 -- the tokens are those of the phrase
 abbrev pub IsSpelled : List Lexeme → CertificatePhrase → Type 0
-IsSpelled tokens Header = tokens ≡ header
+IsSpelled tokens Header = tokens ≡ header_of (codes "cert")
 IsSpelled tokens (Step name value by reasons) = Spells tokens (step_pieces name value by reasons)
 IsSpelled tokens (ValueClaim name value) = Spells tokens (value_claim_pieces name value)
 IsSpelled tokens (ConflictClaim name) = Spells tokens (conflict_claim_pieces name)

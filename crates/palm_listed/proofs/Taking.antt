@@ -1,12 +1,12 @@
 -- Pairs that are taken out of a store and put back, one after another.
-use Rattle.std.proofs.Common.{◌≡◌, ℕ, ℤ, ◌+◌, ◌<◌, ◌≤◌, Bool, true, false, not, nat_eq, List, [], ◌∷◌, length, get_or, drop, Contains, inl, inr, refl, sym, ap, ◌∙◌, subst, arith}
+use Rattle.std.proofs.Common.{◌≡◌, ℕ, ℤ, ◌+◌, ◌<◌, nat_eq, List, [], ◌∷◌, length, get_or, drop, Contains, inl, inr, refl, sym, ap, ◌∙◌, subst, arith}
 use Rattle.std.proofs.lemmas.Bool.{eqb-false, eqb-true}
-use Rattle.std.proofs.lemmas.List.{drop_all, drop_more}
+use Rattle.std.proofs.lemmas.List.{drop_more}
 use Rattle.palm_base.specs.Tells.{Tells}
 use Rattle.palm_base.proofs.cited.Telling.{tells_both}
 use Rattle.palm_base.specs.declared.terms.Pair.{Pair}
-use Rattle.palm_base.proofs.cited.Members.{Known, int_known, known_both, known_like, member_cases, member_here, member_known, member_nil, member_single, member_there, nat_known}
-use Rattle.palm_domain.specs.Rows.{GainsPair, IsDeclared, IsPresent, LosesPair, Row, initial_of, present_of, values_of}
+use Rattle.palm_base.proofs.cited.Members.{Known, int_known, known_both, known_like, member_cases, member_here, member_known, member_single, member_there, nat_known}
+use Rattle.palm_domain.specs.Rows.{IsDeclared, IsPresent, Row, initial_of, present_of, values_of}
 use Rattle.palm_model.specs.Domains.{IsInside, without}
 use Rattle.palm_model.proofs.cited.Without.{has_without, without_has}
 use Rattle.palm_listed.specs.Store.{IsFull, PutsBack, TakesOut}
@@ -14,47 +14,10 @@ use Rattle.palm_listed.specs.Store.{IsFull, PutsBack, TakesOut}
 abbrev pub pair_of : ℕ → ℤ → Pair
 pair_of x v = record { var = x; value = v }
 
-pub same_pair : (p : Pair) (x : ℕ) (v : ℤ) → x ≡ p.var → v ≡ p.value → p ≡ pair_of x v
-same_pair p x v e f = ap (λ (y : ℕ). pair_of y p.value) (sym e) ∙ ap (λ (w : ℤ). pair_of x w) (sym f)
-
 pub pair_known : (p q : Pair) → Known (p ≡ q)
 pair_known p q =
     known_like (λ b. ap (λ (x : ℕ). pair_of x p.value) b.0 ∙ ap (λ (v : ℤ). pair_of q.var v) b.1)
     (λ e. (ap (λ (r : Pair). r.var) e, ap (λ (r : Pair). r.value) e)) (known_both (nat_known p.var q.var) (int_known p.value q.value))
-
--- ---- one pair
-
-pub takes_lost : (before after : List Row) (p : Pair) → length after ≡ length before → initial_of after ≡ initial_of before → LosesPair before after p.var p.value → TakesOut before after (p ∷ [])
-takes_lost before after p long same loses = record {
-  variables = long;
-  initial = same;
-  left = λ x v h. (loses.inside x v h, λ m. loses.gone (subst (λ (q : Pair). IsPresent after q.var q.value) (sym (member_single p (pair_of x v) m)) h));
-  stays = λ x v h out. loses.others x v (λ e f. out (subst (Contains (p ∷ [])) (same_pair p x v e f) (member_here p []))) h;
-}
-
-pub takes_none : (rows : List Row) (p : Pair) → (IsPresent rows p.var p.value → ⊥) → TakesOut rows rows (p ∷ [])
-takes_none rows p absent = record {
-  variables = refl;
-  initial = refl;
-  left = λ x v h. (h, λ m. absent (subst (λ (q : Pair). IsPresent rows q.var q.value) (sym (member_single p (pair_of x v) m)) h));
-  stays = λ x v h out. h;
-}
-
-pub puts_gained : (before after : List Row) (p : Pair) → length after ≡ length before → initial_of after ≡ initial_of before → GainsPair before after p.var p.value → PutsBack before after (p ∷ [])
-puts_gained before after p long same gains = record {
-  variables = long;
-  initial = same;
-  there = λ q m. subst (λ (r : Pair). IsPresent after r.var r.value) (member_single p q m) gains.there;
-  keeps = gains.others;
-}
-
-pub puts_none : (rows : List Row) (p : Pair) → IsPresent rows p.var p.value → PutsBack rows rows (p ∷ [])
-puts_none rows p present = record {
-  variables = refl;
-  initial = refl;
-  there = λ q m. subst (λ (r : Pair). IsPresent rows r.var r.value) (member_single p q m) present;
-  keeps = λ x v h. h;
-}
 
 -- ---- one pair, and then others
 
@@ -87,20 +50,11 @@ puts_then a b c p ps one more = record {
   keeps = λ x v h. more.keeps x v (one.keeps x v h);
 }
 
-takes_nothing : (rows : List Row) → TakesOut rows rows []
-takes_nothing rows = record { variables = refl; initial = refl; left = λ x v h. (h, λ m. member_nil (pair_of x v) m); stays = λ x v h out. h }
-
-puts_nothing : (rows : List Row) → PutsBack rows rows []
-puts_nothing rows = record { variables = refl; initial = refl; there = λ q m. absurd (member_nil q m); keeps = λ x v h. h }
-
 -- ---- loops: what the rest of the pairs still does
 
 pub record Taking (start now : List Row) (pairs : List Pair) (place : ℕ) : Type 0 where
   pub variables : length now ≡ length start
   pub rest : (after : List Row) → TakesOut now after (drop place pairs) → TakesOut start after pairs
-
-pub taking_start : (rows : List Row) (pairs : List Pair) → Taking rows rows pairs 0
-taking_start rows pairs = record { variables = refl; rest = λ after t. t }
 
 pub taking_next : (start now next : List Row) (pairs : List Pair) (place : ℕ) (p : Pair) → Taking start now pairs place → place < length pairs → p ≡ get_or pairs place p → TakesOut now next (p ∷ []) → Taking start next pairs (place + 1)
 taking_next start now next pairs place p taking lt is one = record {
@@ -110,15 +64,9 @@ taking_next start now next pairs place p taking lt is one = record {
       taking.rest after (subst (TakesOut now after) (sym split) (takes_then now next after p (drop (place + 1) pairs) one t));
 }
 
-pub taking_over : (start now : List Row) (pairs : List Pair) (place : ℕ) → Taking start now pairs place → length pairs ≤ place → TakesOut start now pairs
-taking_over start now pairs place taking past = taking.rest now (subst (TakesOut now now) (sym (drop_all place pairs past)) (takes_nothing now))
-
 pub record Putting (start now : List Row) (pairs : List Pair) (place : ℕ) : Type 0 where
   pub initial : initial_of now ≡ initial_of start
   pub rest : (after : List Row) → PutsBack now after (drop place pairs) → PutsBack start after pairs
-
-pub putting_start : (rows : List Row) (pairs : List Pair) → Putting rows rows pairs 0
-putting_start rows pairs = record { initial = refl; rest = λ after t. t }
 
 pub putting_next : (start now next : List Row) (pairs : List Pair) (place : ℕ) (p : Pair) → Putting start now pairs place → place < length pairs → p ≡ get_or pairs place p → PutsBack now next (p ∷ []) → Putting start next pairs (place + 1)
 putting_next start now next pairs place p putting lt is one = record {
@@ -127,9 +75,6 @@ putting_next start now next pairs place p putting lt is one = record {
       let split : drop place pairs ≡ p ∷ drop (place + 1) pairs = drop_more pairs place p lt ∙ ap (λ (q : Pair). q ∷ drop (place + 1) pairs) (sym is) in
       putting.rest after (subst (PutsBack now after) (sym split) (puts_then now next after p (drop (place + 1) pairs) one t));
 }
-
-pub putting_over : (start now : List Row) (pairs : List Pair) (place : ℕ) → Putting start now pairs place → length pairs ≤ place → PutsBack start now pairs
-putting_over start now pairs place putting past = putting.rest now (subst (PutsBack now now) (sym (drop_all place pairs past)) (puts_nothing now))
 
 -- ---- what is taken out of a full store and put back
 
@@ -160,10 +105,6 @@ present_is start mid pairs inside full takes = (
 )
 
 -- ---- what the answers of a store tell behind it
-
-pub gone_tells : (start mid : List Row) (pairs : List Pair) (p : Pair) (b : Bool) → IsFull start → IsDeclared start p.var p.value → TakesOut start mid pairs → Tells b (IsPresent mid p.var p.value) → Tells (not b) (Contains pairs p)
-gone_tells start mid pairs p true full declared takes present = λ m. (takes.left p.var p.value present).1 m
-gone_tells start mid pairs p false full declared takes absent = gone_taken start mid pairs p.var p.value full declared takes absent
 
 first_member : (vs : List ℤ) → (length vs ≡ 0 → ⊥) → (v : ℤ) × Contains vs v
 first_member [] some = absurd (some refl)

@@ -110,21 +110,6 @@ impl Listed {
         lacks_support_without(&mut self.store, &self.kinds[place], pair, removed)
     }
 
-    /// Whether the pair is one of these.
-    pub fn is_gone(&mut self, pair: &Pair, removed: &[Pair]) -> bool
-        requires listed { IsListed self.old }
-        requires declared { Has (initial_of self.old.book) pair.now.var pair.now.value }
-        requires removed { All (λ p. Has (initial_of self.old.book) p.var p.value) removed.now }
-        ensures tells { Tells result (Contains removed.now pair.now) }
-        ensures same { self.new.book ≡ self.old.book }
-        ensures listed { IsListed self.new }
-    {
-        take_out_all(&mut self.store, removed);
-        let is_gone = !self.store.contains(*pair);
-        put_back_all(&mut self.store, removed);
-        is_gone
-    }
-
     /// Whether each declared pair of the variable is one of these.
     pub fn is_empty(&mut self, var: Var, removed: &[Pair]) -> bool
         requires listed { IsListed self.old }

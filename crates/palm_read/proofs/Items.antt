@@ -1,74 +1,21 @@
 -- The lists of the grammar: the readers of one more name, number, row and term read just the pieces of one.
 use Rattle.std.proofs.Common.{◌≡◌, ℕ, ℤ, ◌<◌, Bool, true, false, Option, Some, None, List, [], ◌∷◌, ◌++◌, length, codes, refl, sym, ap, ◌∙◌, subst, arith, inl, inr}
 use Rattle.std.specs.Bool.{⊤}
-use Rattle.std.specs.List.{flat_map, AllByRecursion}
+use Rattle.std.specs.List.{flat_map}
 use Rattle.std.specs.Str.{bytes_eq}
 use Rattle.std.proofs.lemmas.Bool.{eqb-true, eq-eqb}
-use Rattle.std.proofs.lemmas.Option.{same_Some, none-some, some_pair_parts}
+use Rattle.std.proofs.lemmas.Option.{same_Some}
 use Rattle.palm_read.specs.declared.tokens.TokenKind.TheVariants.{Digits, Sign}
 use Rattle.palm_read.specs.Token.{Lexeme}
 use Rattle.palm_read.specs.Linear.{linear_unsigned_term, linear_later_term, TermForm}
-use Rattle.palm_read.specs.Piece.{Piece, Named, Mark, Integer, word, sign, digits_number, listed, in_parentheses}
-use Rattle.palm_read.specs.Reader.Lists.{next_name, next_value, values_at, next_row}
+use Rattle.palm_read.specs.Piece.{Piece, Mark, Integer, word, sign, digits_number, listed, in_parentheses}
+use Rattle.palm_read.specs.Reader.Lists.{next_value, values_at, next_row}
 use Rattle.palm_read.specs.Reader.Shapes.{linear_term_at, linear_next_term}
-use Rattle.palm_read.specs.Reader.Steps.{Reading, and_then, when, choose, front_text, token_at, behind, mark_at}
+use Rattle.palm_read.specs.Reader.Steps.{and_then, when, choose, front_text, token_at, behind, mark_at}
 use Rattle.palm_read.proofs.cited.Front.{Starts, digits_first, minus_first, and_then_some, when_some, guard_some, token_at-cons, behind-cons, name_at-cons, integer_at-starts}
 use Rattle.palm_read.proofs.cited.Begins.{Begins, over, by_mark, by_name, by_integer, by_digits, mark_first, name_first, integer_first, natural_first, begins_over, begins_then, begins_split}
 use Rattle.palm_read.proofs.cited.Many.{IsItem, many_at_takes, many_at_again}
-
--- one more of something was read, and what
-same_item : {A : Type 0} (a b : A) (r s : List Lexeme) → ◌≡◌ {A = Reading (Option A)} (Some (Some a, r)) (Some (Some b, s)) → (a ≡ b) × (r ≡ s)
-same_item a b r s e = let p = some_pair_parts (Some a) (Some b) r s e in (same_Some a b p.0, p.1)
-
-same_rest : {A : Type 0} (r s : List Lexeme) → ◌≡◌ {A = Reading (Option A)} (Some (None, r)) (Some (None, s)) → s ≡ r
-same_rest {A} r s e = sym (some_pair_parts {A = Option A} None None r s e).1
-
-not_none : {A : Type 0} (a : A) (r s : List Lexeme) → ◌≡◌ {A = Reading (Option A)} (Some (Some a, r)) (Some (None, s)) → ⊥
-not_none a r s e = none-some a (sym (some_pair_parts (Some a) None r s e).0)
-
-not_some : {A : Type 0} (a : A) (r s : List Lexeme) → ◌≡◌ {A = Reading (Option A)} (Some (None, r)) (Some (Some a, s)) → ⊥
-not_some a r s e = none-some a (some_pair_parts None (Some a) r s e).0
-
--- what begins with the pieces of one item begins with those of an equal one
-moved : {A : Type 0} (spelling : A → List Piece) (tokens : List Lexeme) (a b : A) (r s : List Lexeme) → ◌≡◌ {A = Reading (Option A)} (Some (Some a, r)) (Some (Some b, s)) → Begins tokens (spelling a) r → Begins tokens (spelling b) s
-moved spelling tokens a b r s e h =
-    let same = same_item a b r s e in
-    subst (λ x. Begins tokens (spelling x) s) same.0 (subst (λ x. Begins tokens (spelling a) x) same.1 h)
-
--- ---- names
-
-abbrev pub name_pieces : List ℕ → List Piece
-name_pieces name = Named name ∷ []
-
-name_takes : (tokens rest : List Lexeme) (a : List ℕ) → next_name tokens ≡ Some (Some a, rest) → Begins tokens (name_pieces a) rest
-unfolding next_name
-name_takes tokens rest a e =
-    elim (when_some e) [
-      | inl w ↦ moved name_pieces tokens w.0.0 a w.0.1 rest w.2 (by_name w.1 over)
-      | inr w ↦ absurd (not_some a tokens rest w.1)
-    ]
-
-name_leaves : (tokens rest : List Lexeme) → next_name tokens ≡ Some (None, rest) → rest ≡ tokens
-unfolding next_name
-name_leaves tokens rest e =
-    elim (when_some e) [
-      | inl w ↦ absurd (not_none w.0.0 w.0.1 rest w.2)
-      | inr w ↦ same_rest {A = List ℕ} tokens rest w.1
-    ]
-
-name_again : (tokens rest : List Lexeme) (a : List ℕ) → Begins tokens (name_pieces a) rest → next_name tokens ≡ Some (Some a, rest)
-unfolding next_name when
-name_again tokens rest a b =
-    let n = name_first b in
-    rw (n.1, name_at-cons a n.0 n.2, begins_over n.3) refl
-
-pub name_item : IsItem next_name name_pieces (λ _. ⊤)
-name_item = record {
-  takes = λ tokens rest a e. (name_takes tokens rest a e, tt);
-  leaves = name_leaves;
-  again = λ tokens rest a _ b. name_again tokens rest a b;
-  some = λ a. omega arith;
-}
+use Rattle.palm_read.proofs.cited.Names.{all_fit, moved, not_none, not_some, same_item, same_rest}
 
 -- ---- numbers behind a comma
 
@@ -111,10 +58,6 @@ value_item = record {
 }
 
 -- ---- numbers up to a sign
-
-pub all_fit : {A : Type 0} (xs : List A) → AllByRecursion (λ _. ⊤) xs
-all_fit [] = tt
-all_fit (x ∷ xs) = (tt, all_fit xs)
 
 abbrev pub values_pieces : List ℕ → List ℤ → List Piece
 values_pieces close vs = listed vs ++ Mark close ∷ []

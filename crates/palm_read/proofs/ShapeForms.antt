@@ -3,7 +3,7 @@ use Rattle.std.proofs.Common.{◌≡◌, ℕ, ℤ, ◌<◌, ◌≤◌, Bool, tru
 use Rattle.std.specs.Bool.{⊤}
 use Rattle.std.specs.List.{flat_map}
 use Rattle.std.specs.Str.{bytes_eq}
-use Rattle.std.proofs.lemmas.Bool.{leb-true, le-leb, false_from_ne_true}
+use Rattle.std.proofs.lemmas.Bool.{false_from_ne_true}
 use Rattle.std.proofs.lemmas.List.Elements.{All-from_recursion, recursion_from_All}
 use Rattle.std.proofs.lemmas.Option.{same_Some}
 use Rattle.palm_model.specs.Linear.{IsLinearOp}
@@ -19,13 +19,14 @@ use Rattle.palm_read.specs.Linear.{linear_unsigned_term, linear_first_term, line
 use Rattle.palm_read.specs.Name.{IsName}
 use Rattle.palm_read.specs.Piece.{Named, Mark, Integer, word, sign, op_text, in_parentheses}
 use Rattle.palm_read.specs.Form.{ShapeForm, CompareVarForm, CompareConstForm, LinearForm, TableForm, ElementForm, CountForm, DifferForm, WithinForm}
-use Rattle.palm_read.specs.Reader.Lists.{next_name, names_at, next_row}
+use Rattle.palm_read.specs.Reader.Lists.{next_name, next_row}
 use Rattle.palm_read.specs.Reader.Shapes.{linear_next_term, linear_first_term_at, linear_terms_at, interval_at, domain_at, offset_at, comparison_at, within_at, of_name_at, is_linear_op, linear_at, table_at, element_at, target_at, count_at, differ_at, shape_at}
 use Rattle.palm_read.specs.Reader.Steps.{and_then, when, choose, front_text, token_at, behind, keyword_at, mark_at, name_at, op_of, op_at}
-use Rattle.palm_read.proofs.cited.Front.{Starts, digits_first, minus_first, and_then_some, when_some, choose_some, guard_some, same_text, token_is, behind-cons, name_at-cons, natural_at-cons, integer_at-starts}
+use Rattle.palm_read.proofs.cited.Front.{and_then_some, when_some, choose_some, guard_some, same_text, token_is, behind-cons, name_at-cons, natural_at-cons, integer_at-starts}
 use Rattle.palm_read.proofs.cited.Begins.{Begins, over, begins_over, begins_then, begins_split, by_keyword, by_mark, by_name, by_natural, by_integer, keyword_first, mark_first, name_first, natural_first, integer_first}
 use Rattle.palm_read.proofs.cited.Many.{many_at_takes, many_at_again}
-use Rattle.palm_read.proofs.Items.{all_fit, name_pieces, name_item, values_takes, values_again, starts_no_mark, behind_other, HasWidth, row_item, term_takes, term_again, term_pieces, term_item}
+use Rattle.palm_read.proofs.cited.Names.{all_fit, end_stops_names, names_again, names_takes, starts_no_name}
+use Rattle.palm_read.proofs.Items.{values_takes, values_again, starts_no_mark, behind_other, HasWidth, row_item, term_takes, term_again, term_pieces, term_item}
 
 -- ---- domains
 
@@ -153,12 +154,6 @@ offset_again (Minus n) tokens b =
 
 -- ---- comparisons
 
--- a number in front is no name, and no name is left where nothing is
-pub starts_no_name : {tokens rest : List Lexeme} {z : ℤ} → Starts tokens z rest → name_at tokens ≡ None
-unfolding name_at token_at front_text and_then choose
-starts_no_name digits_first = refl
-starts_no_name minus_first = refl
-
 abbrev pub Proper : ShapeForm × List Lexeme → List Lexeme → Type 0
 Proper x tokens = Begins tokens (shape_pieces x.0) x.1 × IsProperShape x.0
 
@@ -225,33 +220,9 @@ within_again var domain tokens b =
 
 -- ---- names
 
-names_same : (names : List (List ℕ)) → flat_map name_pieces names ≡ map Named names
-names_same [] = refl
-names_same (n ∷ ns) = ap (λ ps. Named n ∷ ps) (names_same ns)
-
-names_takes : (least : ℕ) (tokens : List Lexeme) (x : List (List ℕ) × List Lexeme) → names_at least tokens ≡ Some x → Begins tokens (map Named x.0) x.1 × (least ≤ length x.0)
-unfolding names_at
-names_takes least tokens x e =
-    let Taken : List (List ℕ) × List Lexeme → Type 0 = λ y. Begins tokens (map Named y.0) y.1 × (least ≤ length y.0) in
-    let names = and_then_some e in
-    let enough = guard_some names.2 in
-    let all = many_at_takes next_name name_pieces (λ _. ⊤) name_item tokens names.0 names.1 in
-    let taken : Taken names.0 = (subst (λ ps. Begins tokens ps names.0.1) (names_same names.0.0) all.0, leb-true least (length names.0.0) enough.0) in
-    subst Taken (same_Some names.0 x enough.1) taken
-
-names_again : (least : ℕ) (names : List (List ℕ)) (tokens rest : List Lexeme) → least ≤ length names → Begins tokens (map Named names) rest → next_name rest ≡ Some (None, rest) → names_at least tokens ≡ Some (names, rest)
-unfolding names_at and_then choose
-names_again least names tokens rest enough b stop =
-    let all = subst (λ ps. Begins tokens ps rest) (sym (names_same names)) b in
-    rw (many_at_again next_name name_pieces (λ _. ⊤) name_item names tokens rest (all_fit names) all stop, le-leb least (length names) enough) refl
-
 sign_stops_names : (text : List ℕ) (rest : List Lexeme) → next_name (sign text ∷ rest) ≡ Some (None, sign text ∷ rest)
 unfolding next_name name_at token_at front_text and_then when choose
 sign_stops_names text rest = refl
-
-end_stops_names : next_name [] ≡ Some (None, [])
-unfolding next_name name_at token_at front_text and_then when
-end_stops_names = refl
 
 -- ---- sums
 

@@ -9,6 +9,7 @@ pub mod Layouts
 pub mod LineForms
 pub mod Many
 pub mod Modes
+pub mod Names
 pub mod Parsing
 pub mod PlainTokens
 pub mod PrintedParts

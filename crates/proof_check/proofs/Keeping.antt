@@ -9,7 +9,7 @@ use Rattle.palm_model.specs.Domains.{Has}
 use Rattle.palm_model.specs.declared.constraint.Con.{Con}
 use Rattle.proof_text.specs.Draft.{unproved}
 use Rattle.proof_text.specs.declared.lemma.Lemma.{Lemma}
-use Rattle.proof_check.specs.Kept.{AreAssumed, AreBehind, AreReasoned, Forgets, IsBehind, Puts, assumed_at, noting_constraint, noting_lemma}
+use Rattle.proof_check.specs.Kept.{AreAssumed, AreReasoned, Forgets, IsBehind, Puts, assumed_at, noting_constraint, noting_lemma}
 use Rattle.proof_check.proofs.Assuming.{assumed_more, forgotten, still_assumed}
 
 -- ---- lemmas before a lemma
@@ -32,28 +32,18 @@ noted_lemma room count l k b early = record { constraints = b.constraints; lemma
 -- ---- what else is listed
 
 module _ (before after : Contents) (lemmas : List Lemma) (begun : Lemma) (assumed : List (Option ℤ)) (proved : List Pair) (kept : AreReasoned before lemmas begun assumed proved) where
-  -- the same book is listed
-  pub keeps_book : after ≡ before → AreReasoned after lemmas begun assumed proved
-  keeps_book same = record {
-    declared = subst (λ (b : Contents). All (λ (p : Pair). Has (initial_of b) p.var p.value) proved) (sym same) kept.declared;
-    long = subst (λ (b : Contents). length assumed ≡ length b.variables) (sym same) kept.long;
-    assumes = kept.assumes;
-    behind = subst (λ (b : Contents). AreBehind (length b.constraints + 1) lemmas) (sym same) kept.behind;
-    last = subst (λ (b : Contents). IsBehind (length b.constraints + 1) (length lemmas) begun) (sym same) kept.last;
-  }
-
   pub keeps_variable : (name : List ℕ) (vs : List ℤ) (more : List (Option ℤ)) → after ≡ with_variable before name vs → more ≡ assumed ++ None ∷ [] → AreReasoned after lemmas begun more proved
   keeps_variable name vs more same grown =
       let entry : BookVar = record { name = name; values = vs } in
       let long : length more ≡ length (before.variables ++ entry ∷ []) =
       ap (λ (xs : List (Option ℤ)). length xs) grown ∙ length_push assumed None ∙ ap (λ (n : ℕ). n + 1) kept.long ∙ sym (length_push before.variables entry) in
-      record {
-        declared = subst (λ (b : Contents). All (λ (p : Pair). Has (initial_of b) p.var p.value) proved) (sym same) (still_declared before name vs proved kept.declared);
-        long = subst (λ (b : Contents). length more ≡ length b.variables) (sym same) long;
-        assumes = subst (λ (xs : List (Option ℤ)). AreAssumed begun.pairs xs) (sym grown) (still_assumed begun.pairs assumed kept.assumes);
-        behind = subst (λ (b : Contents). AreBehind (length b.constraints + 1) lemmas) (sym same) kept.behind;
-        last = subst (λ (b : Contents). IsBehind (length b.constraints + 1) (length lemmas) begun) (sym same) kept.last;
-      }
+      rw (same, grown) (record {
+        declared = still_declared before name vs proved kept.declared;
+        long = rw grown at long;
+        assumes = still_assumed begun.pairs assumed kept.assumes;
+        behind = kept.behind;
+        last = kept.last;
+      })
 
   pub keeps_constraint : (name : List ℕ) (con : Con) → after ≡ with_listed before name con → AreReasoned after lemmas begun assumed proved
   keeps_constraint name con same =
@@ -61,26 +51,26 @@ module _ (before after : Contents) (lemmas : List Lemma) (begun : Lemma) (assume
       let room = length before.constraints + 1 in
       let more = length (before.constraints ++ listed before name con ∷ []) + 1 in
       let le : room ≤ more = omega (arith, longer) in
-      record {
-        declared = subst (λ (b : Contents). All (λ (p : Pair). Has (initial_of b) p.var p.value) proved) (sym same) kept.declared;
-        long = subst (λ (b : Contents). length assumed ≡ length b.variables) (sym same) kept.long;
+      rw same (record {
+        declared = kept.declared;
+        long = kept.long;
         assumes = kept.assumes;
-        behind = subst (λ (b : Contents). AreBehind (length b.constraints + 1) lemmas) (sym same) (record { each = λ place l at. more_room room more place l le (kept.behind.each place l at) });
-        last = subst (λ (b : Contents). IsBehind (length b.constraints + 1) (length lemmas) begun) (sym same) (more_room room more (length lemmas) begun le kept.last);
-      }
+        behind = record { each = λ place l at. more_room room more place l le (kept.behind.each place l at) };
+        last = more_room room more (length lemmas) begun le kept.last;
+      })
 
 -- ---- lemmas
 
 module _ (book : Contents) (lemmas : List Lemma) (begun : Lemma) (assumed : List (Option ℤ)) (proved : List Pair) (kept : AreReasoned book lemmas begun assumed proved) where
   -- a lemma begins that assumes nothing
   pub keeps_cleared : (new : Lemma) (after : List (Option ℤ)) (none : List Pair) → Forgets assumed after begun.pairs → new ≡ unproved [] → none ≡ [] → AreReasoned book lemmas new after none
-  keeps_cleared new after none forgets fresh empty = record {
-    declared = subst (λ (ps : List Pair). All (λ (p : Pair). Has (initial_of book) p.var p.value) ps) (sym empty) (All-nil (λ (p : Pair). Has (initial_of book) p.var p.value));
+  keeps_cleared new after none forgets fresh empty = rw (fresh, empty) (record {
+    declared = All-nil (λ (p : Pair). Has (initial_of book) p.var p.value);
     long = forgets.long ∙ kept.long;
-    assumes = subst (λ (l : Lemma). AreAssumed l.pairs after) (sym fresh) (forgotten begun.pairs assumed after kept.assumes forgets);
+    assumes = forgotten begun.pairs assumed after kept.assumes forgets;
     behind = kept.behind;
-    last = subst (λ (l : Lemma). IsBehind (length book.constraints + 1) (length lemmas) l) (sym fresh) (nothing_behind (length book.constraints + 1) (length lemmas) []);
-  }
+    last = nothing_behind (length book.constraints + 1) (length lemmas) [];
+  })
 
   -- one more pair is assumed
   pub keeps_assumed : (more : Lemma) (after : List (Option ℤ)) (pair : Pair) → assumed_at assumed pair.var ≡ None → Puts assumed after pair.var (Some pair.value) → more ≡ record begun { pairs = begun.pairs ++ pair ∷ [] }

@@ -258,9 +258,8 @@ impl ProofBody {
             → said listed.now.book self.new ≡ with_step (said listed.now.book self.old) pair (noting_constraint self.old.begun c.number)) }
         ensures kept { OnOk result (IsKept listed.now self.new) }
     {
-        self.begun
-            .constraints
-            .push(listed.book.constraint(place).number)?;
+        let number = listed.book.constraint(place).number;
+        self.begun.constraints.push(u64::from(number))?;
         self.proved.push(pair)?;
         Ok(())
     }

@@ -7,8 +7,9 @@ ghost use Rattle.proof_text.specs.Draft.{unproved};
 
 use crate::assumed::is_assumed;
 use palm_base::{NoMemory, Pair, Value};
-use proof_text::{Lemma, LemmaNumberList, NumberList, PairList};
+use proof_text::{Lemma, NumberList, PairList};
 use std::alloc::Global;
+use text_check::is_among;
 
 /// A lemma with these pairs and no step.
 pub fn unproved_lemma(alloc: Global, pairs: PairList) -> Lemma
@@ -17,7 +18,7 @@ pub fn unproved_lemma(alloc: Global, pairs: PairList) -> Lemma
     Lemma {
         pairs,
         constraints: NumberList::new(alloc),
-        lemmas: LemmaNumberList::new(alloc),
+        lemmas: NumberList::new(alloc),
     }
 }
 
@@ -33,13 +34,6 @@ pub fn copy_lemma(lemma: &Lemma) -> Result<Lemma, NoMemory>
         constraints,
         lemmas,
     })
-}
-
-/// Whether the pair is one of these.
-fn is_among(pairs: &[Pair], pair: &Pair) -> bool
-    ensures { Tells result (Contains pairs.now pair.now) }
-{
-    pairs.iter().any(|p| p.is_same(pair))
 }
 
 /// Whether all of these pairs but this one are assumed.

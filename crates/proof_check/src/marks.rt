@@ -34,18 +34,8 @@ fn mark(marks: &mut [bool], place: usize)
     marks[place] = true;
 }
 
-/// Marks the constraints with these numbers.
-fn mark_constraints(marks: &mut [bool], numbers: &[u32])
-    requires { All (λ n. n < length marks.old) numbers.now }
-    ensures { MarksMore marks.old marks.new (Contains numbers.now) }
-{
-    for number in numbers {
-        mark(marks, *number as usize);
-    }
-}
-
-/// Marks the lemmas with these numbers.
-fn mark_lemmas(marks: &mut [bool], numbers: &[u64])
+/// Marks what has these numbers.
+fn mark_all(marks: &mut [bool], numbers: &[u64])
     requires { All (λ n. n < length marks.old) numbers.now }
     ensures { MarksMore marks.old marks.new (Contains numbers.now) }
 {
@@ -60,8 +50,8 @@ fn mark_named(marks: &mut Marks, lemma: &Lemma)
     requires lemmas { All (λ n. n < length marks.old.lemmas.items) lemma.now.lemmas }
     ensures { MarksNamed marks.old marks.new lemma.now }
 {
-    mark_constraints(&mut marks.constraints, lemma.constraints.as_slice());
-    mark_lemmas(&mut marks.lemmas, lemma.lemmas.as_slice());
+    mark_all(&mut marks.constraints, lemma.constraints.as_slice());
+    mark_all(&mut marks.lemmas, lemma.lemmas.as_slice());
 }
 
 /// Marks what the lemma at a place names, where that one is reached.

@@ -1,16 +1,14 @@
 //! Reading the phrases of proofs.
-ghost use Rattle.std.specs.Prelude.{◌≡◌, true, false, IfNone, IfSome, option_map};
-ghost use Rattle.palm_base.specs.Numbers.{AreDigits, digits_number};
+ghost use Rattle.std.specs.Prelude.{◌≡◌, option_map};
 ghost use Rattle.palm_read.specs.Reader.Held.{Gives};
-ghost use Rattle.palm_read.specs.Reader.Lists.{many_at, names_at, next_name};
-ghost use Rattle.proof_text.specs.Reader.{by_at, ground_at, header_at, is_lead, is_lemma_number, lemma_at, lemma_number_at, next_pair, of_lemma_at, phrase_at, step_at, users_at, wipe_at};
+ghost use Rattle.palm_read.specs.Reader.Lists.{many_at};
+ghost use Rattle.proof_text.specs.Reader.{by_at, ground_at, is_lead, lemma_at, lemma_number_at, next_pair, of_lemma_at, phrase_at, step_at, users_at, wipe_at};
 
-use palm_base::read_int;
 use palm_claim::Ground;
-use palm_read::{Cursor, LineError, Name, NameList, TokenKind};
+use palm_read::{Cursor, LineError, Name};
 use proof_text::{NamedPair, NamedPairList, ProofPhrase};
 use std::alloc::Global;
-use text_check::{read_reasons, read_value};
+use text_check::{number_up_to, read_header, read_reasons, read_value};
 
 /// Whether a phrase begins with the word.
 pub fn is_lead(word: &[u8]) -> bool
@@ -25,7 +23,7 @@ pub fn is_lead(word: &[u8]) -> bool
 }
 
 /// Reads a phrase by its first word.
-#[tactic(auto, unfolding(proof_text::specs::Reader::phrase_at, palm_read::specs::Reader::Steps::when))]
+#[tactic(auto, unfolding(proof_text::specs::Reader::phrase_at, palm_read::specs::Reader::Steps::when, palm_read::specs::Reader::Steps::and_then))]
 pub fn read_phrase(cursor: &mut Cursor<'_>, alloc: Global) -> Result<ProofPhrase, LineError>
     ensures { Gives (λ phrase. phrase) result cursor.new (phrase_at cursor.old) }
 {
@@ -40,22 +38,9 @@ pub fn read_phrase(cursor: &mut Cursor<'_>, alloc: Global) -> Result<ProofPhrase
     } else if cursor.takes_word(b"end") {
         Ok(ProofPhrase::End)
     } else {
-        header(cursor)
+        read_header(cursor, b"proof")?;
+        Ok(ProofPhrase::Header)
     }
-}
-
-/// Reads the header: `palm`, `-`, `proof` and `1`.
-#[tactic(auto, unfolding(proof_text::specs::Reader::header_at, palm_read::specs::Reader::Steps::and_then))]
-fn header(cursor: &mut Cursor<'_>) -> Result<ProofPhrase, LineError>
-    ensures { Gives (λ phrase. phrase) result cursor.new (header_at cursor.old) }
-{
-    cursor.keyword(b"palm")?;
-    cursor.sign(b"-")?;
-    cursor.keyword(b"proof")?;
-    if !cursor.takes(TokenKind::Digits, b"1") {
-        return Err(LineError::Form);
-    }
-    Ok(ProofPhrase::Header)
 }
 
 /// Reads the pairs of a lemma, which may be none.
@@ -92,11 +77,11 @@ fn wipe(cursor: &mut Cursor<'_>, alloc: Global) -> Result<ProofPhrase, LineError
 }
 
 /// Reads the names of constraints, which may be none.
-#[tactic(auto, unfolding(proof_text::specs::Reader::users_at, palm_read::specs::Reader::Lists::names_at, palm_read::specs::Reader::Steps::and_then, palm_read::specs::Reader::Steps::choose))]
+#[tactic(auto, unfolding(proof_text::specs::Reader::users_at, palm_read::specs::Reader::Steps::and_then))]
 fn users(cursor: &mut Cursor<'_>, alloc: Global) -> Result<ProofPhrase, LineError>
     ensures { Gives (λ phrase. phrase) result cursor.new (users_at cursor.old) }
 {
-    let names = names(cursor, alloc)?;
+    let names = cursor.names(alloc, 0)?;
     Ok(ProofPhrase::Users(names))
 }
 
@@ -142,23 +127,9 @@ fn lemma_number(cursor: &mut Cursor<'_>) -> Result<u64, LineError>
     let Some(digits) = cursor.digits() else {
         return Err(LineError::Form);
     };
-    match number_of(digits) {
+    match number_up_to(u64::MAX, digits) {
         Some(number) => Ok(number),
         None => Err(LineError::Form),
-    }
-}
-
-/// The number of the digits, where a lemma may have it.
-fn number_of(digits: &[u8]) -> Option<u64>
-    requires { AreDigits digits.now }
-    ensures some { IfSome result (λ number. number ≡ digits_number digits.now) }
-    ensures fits { IfSome result (λ number. is_lemma_number number ≡ true) }
-    ensures none { IfNone result (is_lemma_number (digits_number digits.now) ≡ false) }
-{
-    let number = read_int(digits)?;
-    match u64::try_from(number) {
-        Ok(number) if number >= 1 => Some(number),
-        _ => None,
     }
 }
 
@@ -185,26 +156,4 @@ fn next_pair(cursor: &mut Cursor<'_>, alloc: Global) -> Result<Option<NamedPair>
     cursor.sign(b"=")?;
     let value = read_value(cursor)?;
     Ok(Some(NamedPair { name, value }))
-}
-
-/// Reads names, as long as one stands in front.
-fn names(cursor: &mut Cursor<'_>, alloc: Global) -> Result<NameList, LineError>
-    ensures { Gives (λ names. names) result cursor.new (many_at next_name cursor.old) }
-{
-    let mut names = NameList::new(alloc);
-    while let Some(name) = next_name(cursor, alloc)? {
-        names.push(name)?;
-    }
-    Ok(names)
-}
-
-/// Reads a name, if one stands in front.
-#[tactic(auto, unfolding(palm_read::specs::Reader::Lists::next_name, palm_read::specs::Reader::Steps::when))]
-fn next_name(cursor: &mut Cursor<'_>, alloc: Global) -> Result<Option<Name>, LineError>
-    ensures { Gives (option_map (λ name. name)) result cursor.new (next_name cursor.old) }
-{
-    match cursor.name() {
-        Some(text) => Ok(Some(Name::from_slice(alloc, text)?)),
-        None => Ok(None),
-    }
 }

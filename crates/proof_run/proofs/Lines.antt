@@ -33,7 +33,8 @@ use Rattle.palm_cert.proofs.cited.Lengths.{within_book}
 use Rattle.palm_cert.proofs.cited.Reached.{values_same}
 use Rattle.palm_cert.proofs.cited.Saying.{value_within, words_from}
 use Rattle.palm_search.proofs.cited.Weighing.{distinct_below}
-use Rattle.proof_text.specs.Statement.{IsGroundInRange, Says, ground_pieces, header, lemma_pieces, pair_pieces, step_pieces, users_pieces, wipe_pieces}
+use Rattle.palm_claim.specs.Phrases.{header_of}
+use Rattle.proof_text.specs.Statement.{IsGroundInRange, Says, ground_pieces, lemma_pieces, pair_pieces, step_pieces, users_pieces, wipe_pieces}
 use Rattle.proof_text.specs.declared.statement.NamedPair.{NamedPair}
 use Rattle.palm_claim.specs.declared.statement.Statement.TheVariants.{Phrase}
 use Rattle.proof_text.specs.declared.statement.ProofPhrase.TheVariants.{End, Header, Lemma, Step, Users, Wipe}
@@ -69,7 +70,7 @@ module _ (book : Contents) (is : IsBook book) where
 
 -- ---- the header and the end
 
-header_tokens : tokens_of (codes "palm-proof 1") ≡ header
+header_tokens : tokens_of (codes "palm-proof 1") ≡ header_of (codes "proof")
 unfolding tokens_of kind_at more_at lexeme_at
 header_tokens = refl
 

@@ -1,8 +1,6 @@
 -- What a lemma uses and says: it uses more with a step, and stays true behind more lemmas. The users that a proof tells are
 -- those of its last lemma.
-use Rattle.std.proofs.Common.{◌≡◌, ◌≢◌, ℕ, zero, suc, ◌-◌, List, [], ◌∷◌, ◌++◌, get_or, All, AllPairs, Contains, Some, slice_get, inl, inr, refl, sym, ap, ◌∙◌, subst, arith}
-use Rattle.std.proofs.lemmas.Bool.{cases_lt}
-use Rattle.std.proofs.lemmas.List.{get_or_default}
+use Rattle.std.proofs.Common.{◌≡◌, ℕ, zero, suc, ◌-◌, List, [], ◌∷◌, ◌++◌, All, Contains, Some, slice_get, inl, inr, refl, sym, subst}
 use Rattle.std.proofs.lemmas.List.Elements.{All-map, Contains-append_left}
 use Rattle.palm_base.specs.declared.terms.Pair.{Pair}
 use Rattle.palm_base.specs.declared.terms.Cid.TheVariants.{User}
@@ -71,21 +69,6 @@ pub record IsUsed (book : Contents) (lemmas : List Lemma) (lemma : Lemma) (c : C
 pub used_more : (book : Contents) (lemmas others : List Lemma) (lemma other : Lemma) (c : Con)
     → ((number : ℕ) → Uses lemmas lemma number → Uses others other number) → IsUsed book lemmas lemma c → IsUsed book others other c
 used_more book lemmas others lemma other c more used = record { owner = used.owner; listed = used.listed; is = used.is; uses = more used.owner.number used.uses }
-
--- names that differ stand for one constraint each
-pub owner_once : (cs : List BookCon) (a b : BookCon) → AllPairs (λ (c d : BookCon). c.name ≢ d.name) cs → Contains cs a → Contains cs b → a.name ≡ b.name → a ≡ b
-owner_once cs a b apart m k same = elim (cases_lt m.0 k.0) [
-  | inl lt ↦ absurd (apart m.0 k.0 a lt k.1 (ap (λ (c : BookCon). c.name) m.2 ∙ same ∙ ap (λ (c : BookCon). c.name) (sym (read k a))))
-  | inr ge ↦ elim (cases_lt k.0 m.0) [
-    | inl lt ↦ absurd (apart k.0 m.0 a lt m.1 (ap (λ (c : BookCon). c.name) (read k a) ∙ sym same ∙ ap (λ (c : BookCon). c.name) (sym m.2)))
-    | inr le ↦
-        let e : m.0 ≡ k.0 = omega (arith, ge, le) in
-        sym m.2 ∙ ap (λ i. get_or cs i a) e ∙ read k a
-  ]
-]
-  where
-    read : (m : Contains cs b) (d : BookCon) → get_or cs m.0 d ≡ b
-    read m d = get_or_default cs m.0 d b m.1 ∙ m.2
 
 -- ---- what a lemma says
 

@@ -1,6 +1,5 @@
 -- The grounds of steps: the reader reads just the tokens of one.
-use Rattle.std.proofs.Common.{◌≡◌, ℕ, ◌≤◌, nat_le, true, Some, List, [], ◌∷◌, codes, refl, sym, ap, subst, arith, inl, inr}
-use Rattle.std.proofs.lemmas.Bool.{and_parts, and_from, leb-true, le-leb}
+use Rattle.std.proofs.Common.{◌≡◌, ℕ, Some, List, [], ◌∷◌, codes, refl, sym, ap, subst, inl, inr}
 use Rattle.std.proofs.lemmas.Option.{same_Some}
 use Rattle.palm_read.specs.declared.tokens.TokenKind.TheVariants.{Digits}
 use Rattle.palm_read.specs.Piece.{Natural, digits_number}
@@ -10,22 +9,11 @@ use Rattle.palm_read.proofs.cited.Begins.{Begins, over, begins_over, by_digits, 
 use Rattle.palm_read.proofs.cited.Front.{and_then_some, when_some, guard_some, token_at-cons, name_at-cons}
 use Rattle.palm_claim.specs.declared.ground.Ground.{Ground}
 use Rattle.palm_claim.specs.declared.ground.Ground.TheVariants.{By, Assumed, OfLemma}
-use Rattle.palm_claim.proofs.cited.Phrases.{reasons_again, reasons_takes}
-use Rattle.proof_text.specs.Reader.{by_at, ground_at, is_lemma_number, lemma_number_at, of_lemma_at}
+use Rattle.palm_claim.proofs.cited.Phrases.{number_from, number_to, reasons_again, reasons_takes}
+use Rattle.proof_text.specs.Reader.{by_at, ground_at, lemma_number_at, of_lemma_at}
 use Rattle.proof_text.specs.Statement.{IsGroundInRange, IsLemmaNumber, ground_pieces}
 
 -- ---- numbers of lemmas
-
-lemma_number_from : (k : ℕ) → is_lemma_number k ≡ true → IsLemmaNumber k
-lemma_number_from k e =
-    let a = and_parts (nat_le 1 k) (nat_le k 18446744073709551615) e in
-    let one : 1 ≤ k = leb-true 1 k a.0 in
-    (omega (arith, one), leb-true k 18446744073709551615 a.1)
-
-lemma_number_to : (k : ℕ) → IsLemmaNumber k → is_lemma_number k ≡ true
-lemma_number_to k is =
-    let some = is.0 in
-    and_from (nat_le 1 k) (nat_le k 18446744073709551615) (le-leb 1 k (omega (arith, some))) (le-leb k 18446744073709551615 is.1)
 
 lemma_number_takes : (tokens : List Lexeme) (x : ℕ × List Lexeme) → lemma_number_at tokens ≡ Some x → Begins tokens (Natural x.0 ∷ []) x.1 × IsLemmaNumber x.0
 unfolding lemma_number_at
@@ -33,7 +21,7 @@ lemma_number_takes tokens x e =
     let Taken : ℕ × List Lexeme → Type 0 = λ y. Begins tokens (Natural y.0 ∷ []) y.1 × IsLemmaNumber y.0 in
     let digits = and_then_some e in
     let g = guard_some digits.2 in
-    let taken : Taken (digits_number digits.0.0, digits.0.1) = (by_digits digits.1 over, lemma_number_from (digits_number digits.0.0) g.0) in
+    let taken : Taken (digits_number digits.0.0, digits.0.1) = (by_digits digits.1 over, number_from 18446744073709551615 (digits_number digits.0.0) g.0) in
     subst Taken (same_Some (digits_number digits.0.0, digits.0.1) x g.1) taken
 
 lemma_number_again : (k : ℕ) (tokens : List Lexeme) → IsLemmaNumber k → Begins tokens (Natural k ∷ []) [] → lemma_number_at tokens ≡ Some (k, [])
@@ -41,7 +29,7 @@ unfolding lemma_number_at and_then choose
 lemma_number_again k tokens is b =
     let d = natural_first b in
     let made : ℕ → ℕ × List Lexeme = λ n. (n, []) in
-    rw (d.2, token_at-cons Digits d.0 d.1, lemma_number_to (digits_number d.0) (subst IsLemmaNumber d.3 is), begins_over d.4) (ap (λ n. Some (made n)) (sym d.3))
+    rw (d.2, token_at-cons Digits d.0 d.1, number_to 18446744073709551615 (digits_number d.0) (subst IsLemmaNumber d.3 is), begins_over d.4) (ap (λ n. Some (made n)) (sym d.3))
 
 -- ---- grounds
 

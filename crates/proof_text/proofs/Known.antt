@@ -32,7 +32,7 @@ use Rattle.proof_text.specs.Verdict.{AreApart, AreUsers, HasUnproved, IsMisdecla
 use Rattle.proof_text.specs.declared.lemma.Lemma.{Lemma}
 use Rattle.proof_text.specs.declared.statement.NamedPair.{NamedPair}
 use Rattle.proof_text.specs.declared.statement.Stage.{Stage}
-use Rattle.proof_text.specs.declared.statement.Stage.TheVariants.{Unopened, Declaring, Listing, Reasoning, Wiped, Told, Closed}
+use Rattle.proof_text.specs.declared.statement.Stage.TheVariants.{Declaring, Listing, Wiped, Told, Closed}
 use Rattle.palm_claim.specs.declared.statement.Statement.{Statement}
 use Rattle.palm_claim.specs.declared.statement.Statement.TheVariants.{Comment, Variable, Constraint, Phrase}
 use Rattle.proof_text.specs.declared.statement.ProofPhrase.{ProofPhrase}
@@ -41,24 +41,9 @@ use Rattle.proof_text.specs.declared.verdict.ProofVerdict.{ProofVerdict}
 use Rattle.proof_text.proofs.cited.Phrases.{are_phrases}
 use Rattle.proof_text.proofs.cited.Unique.{proofs_keep}
 use Rattle.proof_text.proofs.cited.Using.{AreEarlier, IsUpTo, earlier_more, has_picked, none_earlier, picked_once, up_to_more, uses_known}
+use Rattle.proof_text.proofs.Stages.{is_declaring, is_reasoning, is_unopened, is_wiped}
 
 -- ---- the order of the lines
-
-is_unopened : (stage : Stage) → Known (stage ≡ Unopened)
-is_unopened Unopened = inl refl
-is_unopened _ = inr (λ e. cc)
-
-is_declaring : (stage : Stage) → Known (stage ≡ Declaring)
-is_declaring Declaring = inl refl
-is_declaring _ = inr (λ e. cc)
-
-is_reasoning : (stage : Stage) → Known (stage ≡ Reasoning)
-is_reasoning Reasoning = inl refl
-is_reasoning _ = inr (λ e. cc)
-
-is_wiped : (stage : Stage) → Known (stage ≡ Wiped)
-is_wiped Wiped = inl refl
-is_wiped _ = inr (λ e. cc)
 
 listing_known : (stage : Stage) → Known (MayList stage)
 listing_known Declaring = inl tt

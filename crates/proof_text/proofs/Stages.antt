@@ -1,60 +1,21 @@
--- The stages at which a line may stand.
-use Rattle.std.proofs.Common.{◌≡◌, refl}
-use Rattle.std.specs.Bool.{⊤}
-use Rattle.proof_text.specs.Draft.{MayList}
+-- How far a proof has come is known.
+use Rattle.std.proofs.Common.{◌≡◌, inl, inr, refl}
+use Rattle.palm_base.proofs.cited.Members.{Known}
 use Rattle.proof_text.specs.declared.statement.Stage.{Stage}
-use Rattle.proof_text.specs.declared.statement.Stage.TheVariants.{Unopened, Declaring, Listing, Reasoning, Wiped, Told, Closed}
+use Rattle.proof_text.specs.declared.statement.Stage.TheVariants.{Unopened, Declaring, Reasoning, Wiped}
 
--- no lemma stands before the constraints end
-abbrev pub IsEarly : Stage → Type 0
-IsEarly Unopened = ⊤
-IsEarly Declaring = ⊤
-IsEarly Listing = ⊤
-IsEarly _ = ⊥
+pub is_unopened : (stage : Stage) → Known (stage ≡ Unopened)
+is_unopened Unopened = inl refl
+is_unopened _ = inr (λ e. cc)
 
-pub early_constraint : (stage : Stage) → ((MayList stage → ⊥) → ⊥) → IsEarly stage
-early_constraint Unopened h = tt
-early_constraint Declaring h = tt
-early_constraint Listing h = tt
-early_constraint Reasoning h = h (λ e. e)
-early_constraint Wiped h = h (λ e. e)
-early_constraint (Told users) h = h (λ e. e)
-early_constraint (Closed users) h = h (λ e. e)
+pub is_declaring : (stage : Stage) → Known (stage ≡ Declaring)
+is_declaring Declaring = inl refl
+is_declaring _ = inr (λ e. cc)
 
--- ---- a stage that is not refuted to be this one is this one
+pub is_reasoning : (stage : Stage) → Known (stage ≡ Reasoning)
+is_reasoning Reasoning = inl refl
+is_reasoning _ = inr (λ e. cc)
 
-pub at_unopened : (stage : Stage) → ((stage ≡ Unopened → ⊥) → ⊥) → stage ≡ Unopened
-at_unopened Unopened h = refl
-at_unopened Declaring h = absurd (h (λ e. cc))
-at_unopened Listing h = absurd (h (λ e. cc))
-at_unopened Reasoning h = absurd (h (λ e. cc))
-at_unopened Wiped h = absurd (h (λ e. cc))
-at_unopened (Told users) h = absurd (h (λ e. cc))
-at_unopened (Closed users) h = absurd (h (λ e. cc))
-
-pub at_declaring : (stage : Stage) → ((stage ≡ Declaring → ⊥) → ⊥) → stage ≡ Declaring
-at_declaring Declaring h = refl
-at_declaring Unopened h = absurd (h (λ e. cc))
-at_declaring Listing h = absurd (h (λ e. cc))
-at_declaring Reasoning h = absurd (h (λ e. cc))
-at_declaring Wiped h = absurd (h (λ e. cc))
-at_declaring (Told users) h = absurd (h (λ e. cc))
-at_declaring (Closed users) h = absurd (h (λ e. cc))
-
-pub at_reasoning : (stage : Stage) → ((stage ≡ Reasoning → ⊥) → ⊥) → stage ≡ Reasoning
-at_reasoning Reasoning h = refl
-at_reasoning Unopened h = absurd (h (λ e. cc))
-at_reasoning Declaring h = absurd (h (λ e. cc))
-at_reasoning Listing h = absurd (h (λ e. cc))
-at_reasoning Wiped h = absurd (h (λ e. cc))
-at_reasoning (Told users) h = absurd (h (λ e. cc))
-at_reasoning (Closed users) h = absurd (h (λ e. cc))
-
-pub at_wiped : (stage : Stage) → ((stage ≡ Wiped → ⊥) → ⊥) → stage ≡ Wiped
-at_wiped Wiped h = refl
-at_wiped Unopened h = absurd (h (λ e. cc))
-at_wiped Declaring h = absurd (h (λ e. cc))
-at_wiped Listing h = absurd (h (λ e. cc))
-at_wiped Reasoning h = absurd (h (λ e. cc))
-at_wiped (Told users) h = absurd (h (λ e. cc))
-at_wiped (Closed users) h = absurd (h (λ e. cc))
+pub is_wiped : (stage : Stage) → Known (stage ≡ Wiped)
+is_wiped Wiped = inl refl
+is_wiped _ = inr (λ e. cc)

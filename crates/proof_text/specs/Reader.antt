@@ -1,12 +1,12 @@
 -- Readers of the forms that only proofs have. That they read just these forms is proved of them.
-use Rattle.std.specs.Prelude.{ℕ, nat_le, Bool, ◌&&◌, ◌||◌, Option, Some, None, List, codes}
+use Rattle.std.specs.Prelude.{ℕ, Bool, ◌||◌, Option, Some, None, List, codes}
 use Rattle.std.specs.Str.{bytes_eq}
 use Rattle.palm_read.specs.Piece.{digits_number}
 use Rattle.palm_read.specs.Reader.Lists.{many_at, names_at}
-use Rattle.palm_read.specs.Reader.Steps.{Reading, ◌>>=◌, when, choose, token_at, behind, keyword_at, mark_at, name_at}
+use Rattle.palm_read.specs.Reader.Steps.{Reading, ◌>>=◌, when, choose, token_at, keyword_at, mark_at, name_at}
 use Rattle.palm_read.specs.Token.{Lexeme}
 use Rattle.palm_read.specs.declared.tokens.TokenKind.TheVariants.{Digits}
-use Rattle.palm_claim.specs.Reader.{reasons_at, value_at}
+use Rattle.palm_claim.specs.Reader.{header_at, is_number, reasons_at, value_at}
 use Rattle.palm_claim.specs.declared.ground.Ground.{Ground}
 use Rattle.palm_claim.specs.declared.ground.Ground.TheVariants.{By, Assumed, OfLemma}
 use Rattle.proof_text.specs.declared.statement.NamedPair.{NamedPair}
@@ -16,7 +16,7 @@ use Rattle.proof_text.specs.declared.statement.ProofPhrase.TheVariants.{Header, 
 -- ---- grounds
 
 abbrev pub is_lemma_number : ℕ → Bool
-is_lemma_number k = nat_le 1 k && nat_le k 18446744073709551615
+is_lemma_number k = is_number 18446744073709551615 k
 
 -- the number of a lemma
 unfoldable pub lemma_number_at : List Lexeme → Reading ℕ
@@ -76,14 +76,6 @@ users_at tokens = do
   names ← names_at 0 tokens
   Some (Users names.0, names.1)
 
-unfoldable pub header_at : List Lexeme → Reading ProofPhrase
-header_at tokens = do
-  first ← keyword_at (codes "palm") tokens
-  second ← mark_at (codes "-") first
-  third ← keyword_at (codes "proof") second
-  rest ← behind Digits (codes "1") third
-  Some (Header, rest)
-
 unfoldable pub phrase_at : List Lexeme → Reading ProofPhrase
 phrase_at tokens =
     when (keyword_at (codes "step") tokens) step_at
@@ -91,7 +83,9 @@ phrase_at tokens =
     (when (keyword_at (codes "wipe") tokens) wipe_at
     (when (keyword_at (codes "none") tokens) users_at
     (when (keyword_at (codes "end") tokens) (λ rest. Some (End, rest))
-    (header_at tokens)))))
+    (do
+      rest ← header_at (codes "proof") tokens
+      Some (Header, rest))))))
 
 -- the first words of these forms
 abbrev pub is_lead : List ℕ → Bool

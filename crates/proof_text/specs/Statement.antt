@@ -2,10 +2,10 @@
 use Rattle.std.specs.Prelude.{◌≡◌, ℕ, ℤ, List, [], ◌∷◌, map, flat_map, All, codes, ⊤}
 use Rattle.palm_model.specs.Limits.{IsValue}
 use Rattle.palm_read.specs.Bounds.{IsFromOneTo}
-use Rattle.palm_read.specs.Piece.{Piece, Keyword, Named, Mark, Integer, Natural, Spells, numeral, word, sign}
+use Rattle.palm_read.specs.Piece.{Piece, Keyword, Named, Mark, Integer, Natural, Spells}
 use Rattle.palm_read.specs.Token.{Lexeme}
 use Rattle.palm_claim.specs.Phrases as of_texts
-use Rattle.palm_claim.specs.Phrases.{Phrases}
+use Rattle.palm_claim.specs.Phrases.{Phrases, header_of}
 use Rattle.palm_claim.specs.Statement.{IsStepNumber, reasons_pieces}
 use Rattle.palm_claim.specs.declared.ground.Ground.{Ground}
 use Rattle.palm_claim.specs.declared.ground.Ground.TheVariants.{By, Assumed, OfLemma}
@@ -14,10 +14,6 @@ use Rattle.palm_claim.specs.declared.statement.Statement.{Statement}
 use Rattle.proof_text.specs.Reader.{is_lead, phrase_at}
 use Rattle.proof_text.specs.declared.statement.ProofPhrase.{ProofPhrase}
 use Rattle.proof_text.specs.declared.statement.ProofPhrase.TheVariants.{Header, Lemma, Step, Wipe, Users, End}
-
--- "palm" "-" "proof" "1", the last without leading zeros
-abbrev pub header : List Lexeme
-header = word (codes "palm") ∷ sign (codes "-") ∷ word (codes "proof") ∷ numeral (codes "1") ∷ []
 
 -- NAME "=" INT
 abbrev pub pair_pieces : NamedPair → List Piece
@@ -47,7 +43,7 @@ users_pieces names = Keyword (codes "none") ∷ map Named names
 
 -- the tokens are those of the phrase
 abbrev pub IsSpelled : List Lexeme → ProofPhrase → Type 0
-IsSpelled tokens Header = tokens ≡ header
+IsSpelled tokens Header = tokens ≡ header_of (codes "proof")
 IsSpelled tokens (Lemma pairs) = Spells tokens (lemma_pieces pairs)
 IsSpelled tokens (Step name value why) = Spells tokens (step_pieces name value why)
 IsSpelled tokens (Wipe name) = Spells tokens (wipe_pieces name)

@@ -4,11 +4,8 @@ use palm_base::{Pair, Sequence};
 /// Pairs of variables and values.
 pub type PairList = Sequence<Pair>;
 
-/// Numbers of listed constraints, counted from 1.
-pub type NumberList = Sequence<u32>;
-
-/// Numbers of lemmas, counted from 1.
-pub type LemmaNumberList = Sequence<u64>;
+/// Numbers of listed constraints or of lemmas, counted from 1.
+pub type NumberList = Sequence<u64>;
 
 /// Lemmas, in the order of their lines.
 pub type LemmaList = Sequence<Lemma>;
@@ -21,5 +18,5 @@ pub struct Lemma {
     /// The numbers of the constraints that its steps name, step by step.
     pub constraints: NumberList,
     /// The numbers of the lemmas that its steps name, step by step.
-    pub lemmas: LemmaNumberList,
+    pub lemmas: NumberList,
 }

@@ -12,7 +12,7 @@ pub use laws::{
     accepted_users_have_no_solution, each_text_has_a_verdict, no_text_has_two_verdicts,
     right_steps_hold,
 };
-pub use lemma::{Lemma, LemmaList, LemmaNumberList, NumberList, PairList};
+pub use lemma::{Lemma, LemmaList, NumberList, PairList};
 pub use palm_claim::Cause;
 pub use statement::{NamedPair, NamedPairList, ProofPhrase, Stage};
 pub use verdict::ProofVerdict;

@@ -1,4 +1,4 @@
--- The texts of a book's variables, and marks by a test.
+-- The texts of a book's variables.
 use Rattle.std.proofs.Common.{◌≡◌, ℕ, zero, suc, ◌+◌, Some, List, [], ◌∷◌, ◌++◌, length, map, flat_map, refl, sym, ap, ◌∙◌, arith}
 use Rattle.std.specs.Prelude.{slice_get}
 use Rattle.std.specs.List.{range_with_len}
@@ -6,8 +6,6 @@ use Rattle.std.proofs.lemmas.Option.{none-some, same_Some}
 use Rattle.palm_book.specs.Book.{BookVar}
 use Rattle.palm_cert.specs.Certificate.{declared_line}
 use Rattle.palm_lang.specs.Reply.{var_line}
-
--- ---- variables by their numbers
 
 -- the texts of numbers, each one higher
 texts_after : (f : ℕ → List ℕ) (a n : ℕ) → flat_map f (range_with_len (a + 1) n) ≡ flat_map (λ x. f (suc x)) (range_with_len a n)
@@ -21,11 +19,3 @@ pub variables_in_turn : (variables : List BookVar) → flat_map (λ e. var_line 
 variables_in_turn [] = refl
 variables_in_turn (v ∷ variables) =
     ap (λ (t : List ℕ). var_line v.name v.values ++ t) (variables_in_turn variables ∙ sym (texts_after (declared_line (v ∷ variables)) 0 (length variables)))
-
--- ---- marks by a test
-
--- the mark of a member
-pub marked_by : {X Y : Type 0} (t : X → Y) (xs : List X) (place : ℕ) (x : X) → slice_get xs place ≡ Some x → slice_get (map t xs) place ≡ Some (t x)
-marked_by t [] place x at = absurd (none-some x at)
-marked_by t (y ∷ xs) zero x at = ap Some (ap t (same_Some y x at))
-marked_by t (y ∷ xs) (suc place) x at = marked_by t xs place x at

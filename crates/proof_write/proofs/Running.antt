@@ -20,7 +20,12 @@ use Rattle.palm_model.specs.State.{EngineState, IsEmptyAt, IsValid, present}
 use Rattle.palm_guide.specs.declared.guide.ViewRow.{ViewRow}
 use Rattle.palm_search.specs.Asked.{Asks}
 use Rattle.palm_search.specs.Breaking.{IsCutOff}
-use Rattle.palm_search.specs.Breaking.IsCutOff.{in_settling}
+use Rattle.palm_search.specs.Breaking.IsCutOff.{before_turn, in_first_settling, in_settling, in_undoing}
+use Rattle.palm_search.specs.Stopping.{IsCutOffBy, OrderStops}
+use Rattle.palm_search.specs.Stopping.IsCutOffBy.{by_first_settling, by_next_turn, by_settling, by_undoing}
+use Rattle.palm_search.specs.Stopping.OrderStops.{stops_before, stops_within}
+use Rattle.palm_search.proofs.cited.Running.{interrupted_filters}
+use Rattle.palm_engine.specs.Settling.{Filters}
 use Rattle.palm_search.specs.Calls.{SearchView, TakesTurn, search_state}
 use Rattle.palm_search.specs.Following.{GuideFollows, Moment, moments}
 use Rattle.palm_search.specs.Kept.{HasDecisions}
@@ -269,9 +274,6 @@ module _ {G O : Type 0} {guiding : Moment → Option G → Option G → Type 0} 
   turn_stops turn after more now result e are follows writes =
       proving_stops after.journal (turn ∷ []) more now NoMemory result e are (omega arith) follows (stopped_quietly mid now more writes)
 
-  pub cut_behind : (turn : Turn) (u : EngineState) (after : SearchView) → length search.journal < budget → TakesTurn guided turn t search u after → IsCutOff guided ordered budget s after.journal u
-  cut_behind turn u after lt takes = in_settling (search_state t search) (search_state u after) search.journal turn proving.by.running.turned lt takes.takes takes.journal (filters_none u)
-
   -- ---- how it ends
 
   pub proving_ends : (end : SearchEnd) (conclusion : List ℕ) (now : SinkState) → EndsWith budget (length search.journal) t end → Concludes book proving.argued.undone (search_state t search) end conclusion
@@ -285,6 +287,22 @@ module _ {G O : Type 0} {guiding : Moment → Option G → Option G → Type 0} 
         writes = record { argued = proving.argued; argues = argues; conclusion = conclusion; concludes = concludes; is = refl };
         written = (writes_then was mid now front conclusion tt (Ok tt) proving.writes writes).ok;
       }
+
+-- ---- where it was broken off
+
+order_filters : {O : Type 0} {answering : List Cid → ℕ → Option O → Option O → Type 0} {ordering : Hearing → Option O → Option O → Type 0} {first last : Option O} {s t : EngineState} → OrderStops answering ordering first last s t → Filters s t
+order_filters {s = s} (stops_before same e) = subst (λ (z : EngineState). Filters s z) (sym e) (filters_none s)
+order_filters {first = first} {s = s} {t = t} (stops_within before after e f by) =
+    subst (λ (z : EngineState). Filters z t) e (subst (λ (z : EngineState). Filters before.state z) f (interrupted_filters (is_some first) before after by.interrupted))
+
+module _ {G O : Type 0} {guiding : Moment → Option G → Option G → Type 0} {stopping : SearchState → Option G → Option G → Type 0} {ordering : Hearing → Option O → Option O → Type 0} {answering : List Cid → ℕ → Option O → Option O → Type 0}
+    {guide_first guide_last : Option G} {order_first order_last : Option O} {budget : ℕ} {s : EngineState} {turns : List Turn} {t : EngineState} where
+  -- what the guide and the order were asked and told is left out
+  pub cut_off : IsCutOffBy guiding stopping ordering answering guide_first guide_last order_first order_last budget s turns t → IsCutOff (is_some guide_first) (is_some order_first) budget s turns t
+  cut_off (by_first_settling none same stops) = in_first_settling none (order_filters stops)
+  cut_off (by_next_turn m guide turned at stops) = before_turn m turned.turned at
+  cut_off (by_undoing m next before gone conflict undoes guide turned lt are at told) = in_undoing m next before gone conflict undoes turned.turned lt are at
+  cut_off (by_settling m next before turn guide order turned lt takes are led stops) = in_settling m next before turn turned.turned lt takes are (order_filters stops)
 
 -- ---- behind its end
 

@@ -7,7 +7,7 @@ ghost use Rattle.palm_lang.specs.Writing.{IsCounted};
 ghost use Rattle.palm_base.specs.Streams.{IsSameSink};
 ghost use Rattle.palm_events.specs.Scoped.{HasScopedReasons};
 ghost use Rattle.palm_model.specs.State.{IsValid};
-ghost use Rattle.palm_search.specs.Breaking.{BreaksOff, IsCutOff};
+ghost use Rattle.palm_search.specs.Breaking.{BreaksOff};
 ghost use Rattle.palm_search.specs.Following.{GuideFollows};
 ghost use Rattle.palm_search.specs.Kept.{HasDecisions};
 ghost use Rattle.palm_search.specs.Leaves.{Counts, Leaves, Lent};
@@ -126,8 +126,6 @@ fn run<F: Filter, G: Guide, O: Order, K: Sink, L: Ledger>(
         machine.old.guide.now machine.new.guide.now machine.old.order.now machine.new.order.now
         budget book.now machine.old.engine.now.state machine.new.search.now.journal end (state_of machine.new)
         (K.state out.old).written (K.state out.new).written) }
-    ensures err { OnErr result (IsCutOff (is_some machine.old.guide.now) (is_some machine.old.order.now)
-        budget machine.old.engine.now.state machine.new.search.now.journal machine.new.engine.now.state) }
     ensures stopped { OnErr result (IsCutOffBy (GuideFollows G.answers G.hears G.state)
         (GuideStops G.answers G.hears G.state)
         (OrderFollows O.answers O.hears O.state) (OrderAnswers O.answers O.state)

@@ -1,4 +1,3 @@
 pub mod Declaring
 pub mod Keeping
 pub mod Reading
-pub mod cited

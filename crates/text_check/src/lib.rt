@@ -10,6 +10,6 @@ mod steps;
 mod verdict;
 
 pub use body::Body;
-pub use numbers::{read_reasons, read_value};
-pub use steps::{check_step, check_wiped};
+pub use numbers::{number_up_to, read_header, read_reasons, read_value};
+pub use steps::{check_step, check_wiped, is_among};
 pub use verdict::check_text;

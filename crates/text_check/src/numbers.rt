@@ -1,16 +1,30 @@
-//! Reading values and numbers of steps, as phrases have them.
-ghost use Rattle.std.specs.Prelude.{◌≡◌, true, false, IfNone, IfSome, option_map};
+//! Reading headers, values and numbers, as phrases have them.
+ghost use Rattle.std.specs.Prelude.{◌≡◌, ◌≤◌, true, false, IfNone, IfSome, option_map};
 ghost use Rattle.palm_base.specs.Numbers.{AreDigits, digits_number};
-ghost use Rattle.palm_claim.specs.Reader.{is_step_number, is_value, next_number, reasons_at, value_at};
+ghost use Rattle.palm_claim.specs.Reader.{header_at, is_number, is_value, next_number, reasons_at, value_at};
 ghost use Rattle.palm_read.specs.Linear.{signed};
-ghost use Rattle.palm_read.specs.Reader.Held.{Gives};
+ghost use Rattle.palm_read.specs.Reader.Held.{Gives, Passes};
 ghost use Rattle.palm_read.specs.Reader.Lists.{many_at};
 
 use palm_base::{Value, read_int};
 use palm_claim::StepList;
 use palm_model::GREATEST_VALUE;
-use palm_read::{Cursor, LineError};
+use palm_read::{Cursor, LineError, TokenKind};
 use std::alloc::Global;
+
+/// Reads the header of a text of this kind: `palm`, `-`, the kind and `1`.
+#[tactic(auto, unfolding(palm_claim::specs::Reader::header_at, palm_read::specs::Reader::Steps::and_then))]
+pub fn read_header(cursor: &mut Cursor<'_>, kind: &[u8]) -> Result<(), LineError>
+    ensures { Passes result cursor.new (header_at kind.now cursor.old) }
+{
+    cursor.keyword(b"palm")?;
+    cursor.sign(b"-")?;
+    cursor.keyword(kind)?;
+    if !cursor.takes(TokenKind::Digits, b"1") {
+        return Err(LineError::Form);
+    }
+    Ok(())
+}
 
 /// Reads `from` and numbers of steps, if `from` stands in front.
 #[tactic(auto, unfolding(palm_claim::specs::Reader::reasons_at, palm_claim::specs::Reader::numbers_at, palm_read::specs::Reader::Steps::and_then, palm_read::specs::Reader::Steps::when, palm_read::specs::Reader::Steps::choose))]
@@ -46,22 +60,23 @@ fn next_number(cursor: &mut Cursor<'_>) -> Result<Option<u32>, LineError>
     let Some(digits) = cursor.digits() else {
         return Ok(None);
     };
-    match step_number(digits) {
-        Some(number) => Ok(Some(number)),
+    match number_up_to(u64::from(u32::MAX), digits) {
+        Some(number) => Ok(Some(number as u32)),
         None => Err(LineError::Form),
     }
 }
 
-/// The number of the digits, where a step may have it.
-fn step_number(digits: &[u8]) -> Option<u32>
+/// The number of the digits, where it is counted from 1 and no more than the most.
+pub fn number_up_to(most: u64, digits: &[u8]) -> Option<u64>
     requires { AreDigits digits.now }
     ensures some { IfSome result (λ number. number ≡ digits_number digits.now) }
-    ensures fits { IfSome result (λ number. is_step_number number ≡ true) }
-    ensures none { IfNone result (is_step_number (digits_number digits.now) ≡ false) }
+    ensures within { IfSome result (λ number. number ≤ most) }
+    ensures fits { IfSome result (λ number. is_number most number ≡ true) }
+    ensures none { IfNone result (is_number most (digits_number digits.now) ≡ false) }
 {
     let number = read_int(digits)?;
-    match u32::try_from(number) {
-        Ok(number) if number >= 1 => Some(number),
+    match u64::try_from(number) {
+        Ok(number) if number >= 1 && number <= most => Some(number),
         _ => None,
     }
 }

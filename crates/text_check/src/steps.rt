@@ -1,5 +1,5 @@
 //! Steps by constraints and variables without a value, by the pairs that earlier steps proved.
-ghost use Rattle.std.specs.Prelude.{◌≡◌, ◌≤◌, length, All, IfOk};
+ghost use Rattle.std.specs.Prelude.{◌≡◌, ◌≤◌, length, All, Contains, IfOk};
 ghost use Rattle.palm_base.specs.Tells.{Tells};
 ghost use Rattle.palm_book.specs.Book.{initial_of};
 ghost use Rattle.palm_claim.specs.Statement.{IsStepNumber};
@@ -62,6 +62,13 @@ pub fn check_step(
         return Ok(Err(Cause::NotRight));
     }
     Ok(Ok(place))
+}
+
+/// Whether the pair is one of these.
+pub fn is_among(pairs: &[Pair], pair: &Pair) -> bool
+    ensures { Tells result (Contains pairs.now pair.now) }
+{
+    pairs.iter().any(|p| p.is_same(pair))
 }
 
 /// The variable with the name, where steps proved each of its values, or the first cause of what says so.

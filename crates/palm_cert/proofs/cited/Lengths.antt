@@ -1,10 +1,10 @@
 -- How long the lines of steps are: a step has at most as many reasons as its constraint's variables have values.
-use Rattle.std.proofs.Common.{◌≡◌, ℕ, zero, suc, ℤ, ◌+◌, ◌*◌, ◌-◌, ◌<◌, ◌≤◌, Bool, true, false, cond, List, [], ◌∷◌, length, filter, flat_map, All, Contains, refl, sym, ◌∙◌, arith, length-append, zero-add}
+use Rattle.std.proofs.Common.{◌≡◌, ℕ, zero, suc, ℤ, ◌+◌, ◌*◌, ◌-◌, ◌<◌, ◌≤◌, Bool, true, false, cond, List, [], ◌∷◌, length, filter, flat_map, All, Contains, refl, sym, arith, length-append}
 use Rattle.std.specs.List.{range_with_len, remove}
 use Rattle.std.proofs.lemmas.List.{length-map}
 use Rattle.std.proofs.lemmas.List.Edits.{length-remove}
 use Rattle.std.proofs.lemmas.List.Elements.{All-head, All-tail}
-use Rattle.std.proofs.lemmas.List.FromFn.{get_or-range_with_len, length-range_with_len}
+use Rattle.std.proofs.lemmas.List.FromFn.{length-range_with_len}
 use Rattle.std.proofs.lemmas.Option.{slice_get_within}
 use Rattle.palm_base.specs.declared.terms.Pair.{Pair}
 use Rattle.palm_base.proofs.cited.Members.{all_members, filter_member, member_flat_map, member_here, member_map, member_nil, member_place, member_remove, member_same, member_there}
@@ -16,6 +16,7 @@ use Rattle.palm_explain.specs.Needed.{pairs_with}
 use Rattle.palm_cert.specs.Certificate.{is_asked, numbers_from, numbers_of}
 use Rattle.palm_cert.proofs.cited.Links.{Apart, asked_member}
 use Rattle.palm_cert.proofs.cited.Numbers.{numbers_member}
+use Rattle.palm_cert.proofs.cited.Before.{range_has}
 
 -- ---- pairs that are apart and among others are not more than these
 
@@ -67,9 +68,6 @@ within_book (e ∷ es) (suc x) v m = let lt = within_book es x v m in omega (ari
 abbrev all_of : List BookVar → List ℕ
 all_of variables = range_with_len 0 (length variables)
 
-range_member : (n x : ℕ) → x < n → Contains (range_with_len 0 n) x
-range_member n x lt = (x, omega (arith, lt, length-range_with_len 0 n), get_or-range_with_len 0 n x x lt ∙ zero-add x)
-
 -- ---- numbers of steps
 
 count_cond : (b : Bool) (n : ℕ) (ns : List ℕ) (p : Pair) (ps : List Pair) → length ns ≡ length ps → length (cond b (n ∷ ns) ns) ≡ length (cond b (p ∷ ps) ps)
@@ -93,7 +91,7 @@ pub are_step_numbers : (variables : List BookVar) (steps : List Removal) (reason
     → ((p : Pair) → Contains (log_pairs steps) p → Contains (values_at variables p.var) p.value) → All IsStepNumber (numbers_of steps reasons)
 are_step_numbers variables steps reasons few values apart declared =
     let whole = pairs_over variables (all_of variables) in
-    let short = apart_short (log_pairs steps) whole apart (λ p m. over_member variables (all_of variables) p (range_member (length variables) p.var (within_book variables p.var p.value (declared p m))) (declared p m)) in
+    let short = apart_short (log_pairs steps) whole apart (λ p m. over_member variables (all_of variables) p (range_has (length variables) p.var (within_book variables p.var p.value (declared p m))) (declared p m)) in
     let many = over_few variables (all_of variables) values in
     all_members IsStepNumber (numbers_of steps reasons) (λ k m.
     let q = numbers_member 1 steps reasons k m in

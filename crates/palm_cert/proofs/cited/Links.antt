@@ -5,19 +5,14 @@ use Rattle.std.proofs.lemmas.Bool.{false≢true}
 use Rattle.std.proofs.lemmas.List.Elements.{Contains-append_left, Contains-append_right, Contains-append_cases}
 use Rattle.std.proofs.lemmas.Option.{none-some, same_Some}
 use Rattle.palm_base.specs.declared.terms.Pair.{Pair}
-use Rattle.palm_base.proofs.cited.Members.{member_nil, member_here, member_cases, member_same, member_map, member_unmap, member_get, member_filter, filter_member}
+use Rattle.palm_base.proofs.cited.Members.{member_nil, member_here, member_cases, member_same, member_get, member_filter, filter_member}
 use Rattle.palm_model.specs.Log.{Removal, log_pairs}
 use Rattle.palm_model.proofs.cited.Without.{among_member, member_among}
 use Rattle.palm_explain.specs.Explanations.{AreLinked, IsLinked}
 use Rattle.palm_cert.specs.Certificate.{asked, is_asked, steps_of}
+pub use Rattle.palm_events.proofs.cited.Logs.{logged as pair_removal, pair_logged}
 
 -- ---- pairs of logs
-
-pub pair_logged : (log : List Removal) (r : Removal) → Contains log r → Contains (log_pairs log) r.pair
-pair_logged log r m = member_map (λ (s : Removal). s.pair) log r m
-
-pub pair_removal : (log : List Removal) (p : Pair) → Contains (log_pairs log) p → (r : Removal) × Contains log r × (r.pair ≡ p)
-pair_removal log p m = member_unmap (λ (s : Removal). s.pair) log p m
 
 pairs_left : (log more : List Removal) (p : Pair) → Contains (log_pairs log) p → Contains (log_pairs (log ++ more)) p
 pairs_left log more p m =

@@ -1,5 +1,5 @@
 -- What an engine with the book's variables and active constraints has removed is of the book.
-use Rattle.std.proofs.Common.{◌≡◌, ◌<◌, ℕ, zero, suc, Option, Some, List, [], ◌∷◌, ◌++◌, length, All, Contains, inl, inr, refl, sym, ap, ◌∙◌, subst, arith}
+use Rattle.std.proofs.Common.{◌≡◌, ◌<◌, ℕ, zero, suc, Option, Some, List, [], ◌∷◌, ◌++◌, length, All, Contains, inl, inr, refl, sym, ap, ◌∙◌, subst}
 use Rattle.std.specs.Prelude.{slice_get}
 use Rattle.std.proofs.lemmas.List.Elements.{All-contains}
 use Rattle.std.proofs.lemmas.Option.{none-some, same_Some}
@@ -27,6 +27,7 @@ use Rattle.palm_cert.specs.Certificate.{claim_var, numbers_of, step_line, step_w
 use Rattle.palm_cert.specs.Needs.{CanClaim, IsNumbered, IsOfBook}
 use Rattle.palm_cert.proofs.cited.Links.{pair_removal}
 use Rattle.palm_cert.proofs.cited.Numbers.{pair_at}
+pub use Rattle.palm_claim.proofs.cited.ProvedSteps.{some_at as some_removal}
 
 -- an active constraint of the book is one of its constraints
 pub active_user : (book : Contents) (c : Cid) → IsActive (active_of book) c → IsUser book c
@@ -55,11 +56,6 @@ pub reasons_at : (log : List Removal) (place : ℕ) (r : Removal) → slice_get 
 reasons_at [] place r at = absurd (none-some r at)
 reasons_at (s ∷ log) zero r at = ap (λ (z : Removal). z.reasons) (same_Some s r at)
 reasons_at (s ∷ log) (suc place) r at = reasons_at log place r at
-
-pub some_removal : (log : List Removal) (place : ℕ) → place < length log → (r : Removal) × (slice_get log place ≡ Some r)
-some_removal [] place lt = absurd (omega (arith, lt))
-some_removal (r ∷ log) zero lt = (r, refl)
-some_removal (r ∷ log) (suc place) lt = some_removal log place (omega (arith, lt))
 
 module _ (book : Contents) (log : List Removal) (logged : All (IsOfBook book) log) (place : ℕ) (lt : place < length log) where
   at_place : IsOfBook book (some_removal log place lt).0

@@ -17,6 +17,7 @@ use Rattle.palm_explain.specs.Needed.{IsNeeded, pairs_with}
 use Rattle.palm_explain.specs.Needed.IsNeeded.{is_claimed, is_reason}
 use Rattle.palm_cert.specs.Certificate.{asked, is_asked, is_cited, steps_of}
 use Rattle.palm_cert.proofs.cited.Links.{asked_cases, asked_member, claimed_asked, member_asked, pair_logged, pair_removal, passed_pair, reasons_asked}
+use Rattle.std.proofs.lemmas.List.Elements.{filter-append}
 
 module _ (log : List Removal) (pairs : List Pair) where
   pub asked_needed : (later : List Removal) → ((r : Removal) → Contains later r → Contains log r) → (p : Pair) → Contains (asked later pairs) p → IsNeeded log pairs p
@@ -88,14 +89,6 @@ explains_cited log x values c linked some =
 
 -- ---- the steps are a log of their own
 
-filter_push : (t : Removal → Bool) (xs : List Removal) (x : Removal) → filter t (xs ++ x ∷ []) ≡ filter t xs ++ cond (t x) (x ∷ []) []
-filter_push t [] x = refl
-filter_push t (y ∷ ys) x = ap (λ zs. cond (t y) (y ∷ zs) zs) (filter_push t ys x) ∙ out (t y) (cond (t x) (x ∷ []) [])
-  where
-    out : (b : Bool) (zs : List Removal) → cond b (y ∷ filter t ys ++ zs) (filter t ys ++ zs) ≡ cond b (y ∷ filter t ys) (filter t ys) ++ zs
-    out true zs = refl
-    out false zs = refl
-
 pub right_linked : (initial : Domains) (active : List Active) (earlier later : List Removal) → AreRight initial active earlier later → AreLinked earlier later
 right_linked initial active earlier [] right = tt
 right_linked initial active earlier (r ∷ later) right =
@@ -124,10 +117,10 @@ module _ (initial : Domains) (active : List Active) (log : List Removal) (pairs 
       → AreRight initial active (filter is_step (earlier ++ r ∷ [])) later → AreRight initial active (filter is_step earlier) (cond b (r ∷ later) later)
   right_cases earlier r later true e right m rest = (
     right_step earlier r right m e,
-    subst (λ (l : List Removal). AreRight initial active l later) (filter_push is_step earlier r ∙ ap (λ (b : Bool). filter is_step earlier ++ cond b (r ∷ []) []) e) rest,
+    subst (λ (l : List Removal). AreRight initial active l later) (filter-append is_step earlier (r ∷ []) ∙ ap (λ (b : Bool). filter is_step earlier ++ cond b (r ∷ []) []) e) rest,
   )
   right_cases earlier r later false e right m rest =
-      subst (λ (l : List Removal). AreRight initial active l later) (filter_push is_step earlier r ∙ ap (λ (b : Bool). filter is_step earlier ++ cond b (r ∷ []) []) e ∙ append-nil (filter is_step earlier)) rest
+      subst (λ (l : List Removal). AreRight initial active l later) (filter-append is_step earlier (r ∷ []) ∙ ap (λ (b : Bool). filter is_step earlier ++ cond b (r ∷ []) []) e ∙ append-nil (filter is_step earlier)) rest
 
   right_steps : (earlier later : List Removal) → ((r : Removal) → Contains later r → Contains log r) → AreRight initial active earlier later → AreRight initial active (filter is_step earlier) (filter is_step later)
   right_steps earlier [] inside right = tt

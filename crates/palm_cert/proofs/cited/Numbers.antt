@@ -1,5 +1,5 @@
 -- The numbers of steps.
-use Rattle.std.proofs.Common.{◌≡◌, ℕ, zero, suc, ◌+◌, ◌-◌, ◌<◌, ◌≤◌, Bool, true, false, cond, Some, List, [], ◌∷◌, ◌++◌, AllPairs, Contains, inl, inr, refl, sym, ap, ◌∙◌, subst, arith}
+use Rattle.std.proofs.Common.{◌≡◌, ℕ, zero, suc, ◌+◌, ◌-◌, ◌<◌, ◌≤◌, Bool, true, false, cond, Some, option_map, List, [], ◌∷◌, ◌++◌, AllPairs, Contains, inl, inr, refl, sym, ap, ◌∙◌, subst, arith}
 use Rattle.std.specs.Prelude.{slice_get}
 use Rattle.std.specs.List.{dedup}
 use Rattle.std.specs.List.Retain.{IsFiltered, DiffersFromLast}
@@ -12,7 +12,7 @@ use Rattle.std.proofs.lemmas.List.Filters.{dedup_is}
 use Rattle.std.proofs.lemmas.List.Kept.{AllPairs-from_increasing, Contains-dedup_nat, Contains-from_dedup}
 use Rattle.std.proofs.lemmas.List.Sorted.{Contains-permutation, IsPermutation-sym}
 use Rattle.std.proofs.lemmas.Map.Keys.{IsStrictlyIncreasing-dedup}
-use Rattle.std.proofs.lemmas.Option.{none-some, same_Some}
+use Rattle.std.proofs.lemmas.Option.{none-some, same_Some, slice_get-map}
 use Rattle.palm_base.specs.declared.terms.Pair.{Pair}
 use Rattle.palm_base.proofs.cited.Members.{member_nil, member_here, member_there, member_cases, member_same}
 use Rattle.palm_model.specs.Log.{Removal, log_pairs}
@@ -21,17 +21,15 @@ use Rattle.palm_cert.specs.Needs.{IsNumberOf}
 use Rattle.palm_cert.proofs.cited.Links.{Apart, asked_member, member_asked, same_place}
 
 pub pair_at : (log : List Removal) (place : ℕ) (r : Removal) → slice_get log place ≡ Some r → slice_get (log_pairs log) place ≡ Some r.pair
-pair_at [] place r at = absurd (none-some r at)
-pair_at (s ∷ log) zero r at = ap (λ (z : Removal). Some z.pair) (same_Some s r at)
-pair_at (s ∷ log) (suc place) r at = pair_at log place r at
+pair_at log place r at = slice_get-map (λ (s : Removal). s.pair) log place ∙ ap (option_map (λ (s : Removal). s.pair)) at
 
 -- ---- the numbers of the steps that proved some pairs
 
-rest_number : (b : Bool) (n k : ℕ) (ks : List ℕ) → Contains ks k → Contains (cond b (n ∷ ks) ks) k
+pub rest_number : (b : Bool) (n k : ℕ) (ks : List ℕ) → Contains ks k → Contains (cond b (n ∷ ks) ks) k
 rest_number true n k ks m = member_there n ks k m
 rest_number false n k ks m = m
 
-first_number : (b : Bool) (n : ℕ) (ks : List ℕ) → b ≡ true → Contains (cond b (n ∷ ks) ks) n
+pub first_number : (b : Bool) (n : ℕ) (ks : List ℕ) → b ≡ true → Contains (cond b (n ∷ ks) ks) n
 first_number true n ks e = member_here n ks
 first_number false n ks e = absurd (false≢true e)
 
@@ -78,7 +76,7 @@ abbrev pub Rising : List ℕ → Type 0
 Rising [] = Unit {0}
 Rising (x ∷ xs) = ((y : ℕ) → Contains xs y → x < y) × Rising xs
 
-rising_cond : (b : Bool) (n : ℕ) (ks : List ℕ) → ((k : ℕ) → Contains ks k → n < k) → Rising ks → Rising (cond b (n ∷ ks) ks)
+pub rising_cond : (b : Bool) (n : ℕ) (ks : List ℕ) → ((k : ℕ) → Contains ks k → n < k) → Rising ks → Rising (cond b (n ∷ ks) ks)
 rising_cond true n ks above rising = (above, rising)
 rising_cond false n ks above rising = rising
 

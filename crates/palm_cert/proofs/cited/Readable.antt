@@ -12,7 +12,8 @@ use Rattle.palm_book.specs.Book.{Contents, BookVar, IsBook, active_of, initial_o
 use Rattle.palm_book.specs.declared.book.BookCon.{BookCon}
 use Rattle.palm_book.proofs.cited.Any.{any_cases, any_member, any_none}
 use Rattle.palm_book.proofs.cited.WellFormed.{named_near}
-use Rattle.palm_claim.specs.Statement.{IsStepNumber, Says, header}
+use Rattle.palm_claim.specs.Phrases.{header_of}
+use Rattle.palm_claim.specs.Statement.{IsStepNumber, Says}
 use Rattle.palm_claim.specs.declared.statement.CertificatePhrase.TheVariants.{End, Header, Step}
 use Rattle.palm_claim.specs.declared.statement.Statement.TheVariants.{Phrase}
 use Rattle.palm_claim.specs.declared.verdict.Claim.{Claim}
@@ -44,7 +45,7 @@ use Rattle.palm_cert.proofs.cited.Saying.{conflict_claim_length, conflict_claim_
 
 -- ---- the first and the last line
 
-header_tokens : tokens_of (codes "palm-cert 1") ≡ header
+header_tokens : tokens_of (codes "palm-cert 1") ≡ header_of (codes "cert")
 unfolding tokens_of kind_at more_at lexeme_at
 header_tokens = refl
 

@@ -17,7 +17,7 @@ use Rattle.palm_cert.specs.Certificate.{asked, is_asked, steps_of}
 use Rattle.palm_cert.specs.Needs.{AreSteps, IsNumberOf, removals_at}
 use Rattle.palm_cert.proofs.cited.Links.{Apart, apart_passed, asked_member, linked_apart, member_asked, pair_removal, reasons_steps, same_place}
 use Rattle.palm_cert.proofs.cited.Needed.{asked_needed, needed_asked}
-use Rattle.palm_cert.proofs.cited.Numbers.{Rising, pair_at, rising_from, same_rising}
+use Rattle.palm_cert.proofs.cited.Numbers.{Rising, first_number, pair_at, rest_number, rising_cond, rising_from, same_rising}
 
 -- ---- one place
 
@@ -111,26 +111,14 @@ place_passed : (n : ℕ) (t : Removal → Bool) (log : List Removal) (i : ℕ) �
 place_passed n t [] i m = absurd (member_nil i m)
 place_passed n t (r ∷ log) i m = passed_cases n t r log i (places_from (n + 1) t log) (t r) refl (place_passed (n + 1) t log i) m
 
-cond_there : (b : Bool) (n : ℕ) (ps : List ℕ) (i : ℕ) → Contains ps i → Contains (cond b (n ∷ ps) ps) i
-cond_there true n ps i m = member_there n ps i m
-cond_there false n ps i m = m
-
-cond_here : (b : Bool) (n : ℕ) (ps : List ℕ) → b ≡ true → Contains (cond b (n ∷ ps) ps) n
-cond_here true n ps e = member_here n ps
-cond_here false n ps e = cc
-
 passed_place : (n : ℕ) (t : Removal → Bool) (log : List Removal) (j : ℕ) (r : Removal) → slice_get log j ≡ Some r → t r ≡ true → Contains (places_from n t log) (n + j)
 passed_place n t [] j r at e = absurd (none-some r at)
 passed_place n t (s ∷ log) zero r at e =
     let same : n ≡ n + 0 = omega arith in
-    member_same (places_from n t (s ∷ log)) n (n + 0) same (cond_here (t s) n (places_from (n + 1) t log) (ap t (same_Some s r at) ∙ e))
+    member_same (places_from n t (s ∷ log)) n (n + 0) same (first_number (t s) n (places_from (n + 1) t log) (ap t (same_Some s r at) ∙ e))
 passed_place n t (s ∷ log) (suc j) r at e =
     let same : (n + 1) + j ≡ n + suc j = omega arith in
-    member_same (places_from n t (s ∷ log)) ((n + 1) + j) (n + suc j) same (cond_there (t s) n (places_from (n + 1) t log) ((n + 1) + j) (passed_place (n + 1) t log j r at e))
-
-rising_cond : (b : Bool) (n : ℕ) (ps : List ℕ) → ((i : ℕ) → Contains ps i → n < i) → Rising ps → Rising (cond b (n ∷ ps) ps)
-rising_cond true n ps above rising = (above, rising)
-rising_cond false n ps above rising = rising
+    member_same (places_from n t (s ∷ log)) ((n + 1) + j) (n + suc j) same (rest_number (t s) n ((n + 1) + j) (places_from (n + 1) t log) (passed_place (n + 1) t log j r at e))
 
 places_rise : (n : ℕ) (t : Removal → Bool) (log : List Removal) → Rising (places_from n t log)
 places_rise n t [] = tt

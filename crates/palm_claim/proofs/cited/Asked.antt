@@ -1,6 +1,5 @@
 -- Whatever is asked of names, steps and claims is known.
-use Rattle.std.proofs.Common.{◌≡◌, ℕ, ℤ, List, [], get_or, All, Any, Contains, inl, inr, refl, ap, ◌∙◌, subst}
-use Rattle.std.proofs.lemmas.List.{get_or_default}
+use Rattle.std.proofs.Common.{◌≡◌, ℕ, ℤ, List, All, Any, Contains, inl, inr, refl, ap, ◌∙◌, subst}
 use Rattle.palm_base.specs.declared.terms.Pair.{Pair}
 use Rattle.palm_base.proofs.cited.Members.{Known, all_members, any_known, int_known, known_both, known_like, known_not, list_known, member_known, nat_known}
 use Rattle.palm_book.specs.Book.{Contents, BookVar, HasConstraint, HasVariable, initial_of}
@@ -17,7 +16,7 @@ use Rattle.palm_claim.specs.Step.{IsReached, IsRight, pairs_at}
 use Rattle.palm_claim.specs.declared.verdict.Claim.{Claim}
 use Rattle.palm_claim.specs.declared.verdict.Claim.TheVariants.{Gone, Conflict}
 use Rattle.palm_book.proofs.cited.Naming.{name_known, some_known, variable_with}
-use Rattle.palm_book.proofs.cited.Pairs.{Apart, pair_is, variable_is}
+use Rattle.palm_book.proofs.cited.Pairs.{Apart, pair_is, variable_is, variable_known as has_variable}
 
 -- ---- what is known in general
 
@@ -90,12 +89,6 @@ reached_known book proved (Conflict x) =
 
 -- ---- what a name stands for
 
--- a variable that has the name is one that has it
-pub named_variable : (variables : List BookVar) (name : List ℕ) (x : ℕ) → IsVariable variables name x → Any (λ e. e.name ≡ name) variables
-named_variable variables name x is =
-    let none : BookVar = record { name = []; values = [] } in
-    (x, get_or variables x none, is.declared, get_or_default variables x (get_or variables x none) none is.declared, is.named)
-
 -- what is asked of the one pair that a name and a value stand for
 pub asked_of_pair : (variables : List BookVar) (name : List ℕ) (value : ℤ) (Wrong : Pair → Type 0) → Apart variables → ((p : Pair) → Known (Wrong p))
     → Known ((pair : Pair) × IsPair variables name value pair × Wrong pair)
@@ -110,7 +103,7 @@ asked_of_pair variables name value Wrong apart known = elim (declared_pair varia
     declared_pair : (variables : List BookVar) (name : List ℕ) (value : ℤ) → Known ((pair : Pair) × IsPair variables name value pair)
     declared_pair variables name value = elim (name_known (λ e. e.name) variables name) [
       | inl a ↦ let x = variable_with variables name a in inl (record { var = x.0; value = value }, record { variable = record { declared = x.1; named = x.2 }; gives = refl })
-      | inr none ↦ inr (λ q. none (named_variable variables name q.0.var q.1.variable))
+      | inr none ↦ inr (λ q. none (has_variable variables name q.0.var q.1.variable))
     ]
 
 pub asked_of_variable : (variables : List BookVar) (name : List ℕ) (Wrong : ℕ → Type 0) → Apart variables → ((x : ℕ) → Known (Wrong x))
@@ -123,5 +116,5 @@ asked_of_variable variables name Wrong apart known = elim (name_known (λ e. e.n
         | inl wrong ↦ inl (x.0, is, wrong)
         | inr fine ↦ inr (λ q. fine (subst Wrong (variable_is variables name q.0 x.0 apart q.1 is) q.2))
       ]
-  | inr none ↦ inr (λ q. none (named_variable variables name q.0 q.1))
+  | inr none ↦ inr (λ q. none (has_variable variables name q.0 q.1))
 ]

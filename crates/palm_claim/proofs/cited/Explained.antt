@@ -1,5 +1,5 @@
 -- What is accepted is explained by the listed constraints: every pair that steps prove is, from the first step on.
-use Rattle.std.proofs.Common.{◌≡◌, ℕ, ◌+◌, ◌-◌, ◌<◌, ◌≤◌, ℤ, List, [], ◌∷◌, length, All, Any, Contains, ◌⊎◌, inl, inr, refl, sym, ap, subst, arith}
+use Rattle.std.proofs.Common.{◌≡◌, ℕ, ◌+◌, ◌-◌, ◌<◌, ◌≤◌, ℤ, List, [], ◌∷◌, length, All, Any, Contains, inl, inr, refl, sym, ap, subst, arith}
 use Rattle.std.specs.Bool.{⊤}
 use Rattle.std.proofs.lemmas.Bool.{cases_lt}
 use Rattle.std.proofs.lemmas.List.{get_or_default, length-map}
@@ -15,15 +15,16 @@ use Rattle.palm_model.specs.Domains.{Domains, IsInside, values_of, without}
 use Rattle.palm_model.proofs.cited.Trials.{support_grows}
 use Rattle.palm_model.proofs.cited.Without.{has_without, pair_of}
 use Rattle.palm_laws.proofs.cited.Solutions.{explained_missing}
+use Rattle.palm_read.specs.Domain.{values_in}
 use Rattle.palm_claim.specs.Claim.{HoldsIn, IsExplained, IsOver, IsOverItsBook, constraints_of}
-use Rattle.palm_claim.specs.Draft.{Draft, MayFollow, MayList, at_stage, blank, with_constraint, with_step, with_variable}
+use Rattle.palm_claim.specs.Draft.{Draft, MayList, blank, with_constraint, with_step, with_variable}
 use Rattle.palm_claim.specs.Own as of_texts
 use Rattle.palm_claim.specs.Statement.{IsStepNumber, Says}
 use Rattle.palm_claim.specs.Step.{IsReached, IsRight, pair_at, pairs_at}
 use Rattle.palm_claim.specs.Judging.{Judges, in_order}
 use Rattle.palm_claim.specs.Verdict.{IsVerdict, Meets, certificates, ending, of_certificates}
 use Rattle.palm_claim.specs.declared.statement.Stage.{Stage}
-use Rattle.palm_claim.specs.declared.statement.Stage.TheVariants.{Unopened, Declaring, Listing, Proving, Claimed, Closed}
+use Rattle.palm_claim.specs.declared.statement.Stage.TheVariants.{Declaring, Listing, Proving, Claimed, Closed}
 use Rattle.palm_claim.specs.declared.statement.CertificatePhrase.{CertificatePhrase}
 use Rattle.palm_claim.specs.declared.statement.CertificatePhrase.TheVariants.{Header, Step, ValueClaim, ConflictClaim, End}
 use Rattle.palm_claim.specs.declared.statement.Statement.{Statement}
@@ -33,6 +34,8 @@ use Rattle.palm_claim.specs.declared.verdict.Claim.TheVariants.{Gone, Conflict}
 use Rattle.palm_claim.specs.declared.verdict.Proved.{Proved}
 use Rattle.palm_claim.specs.declared.verdict.Verdict.{Verdict}
 use Rattle.palm_claim.specs.declared.verdict.Verdict.TheVariants.{Accepted, Refused}
+use Rattle.palm_claim.proofs.Stages.{is_declaring, is_unopened}
+use Rattle.palm_claim.proofs.cited.Asked.{settled}
 
 -- ---- a right step is explained where its reasons are
 
@@ -69,89 +72,33 @@ right_explained book proved pair by reasons explained right d inside closed has 
 
 -- ---- what every draft keeps to
 
--- no step stands before the constraints end
-abbrev IsEarly : Stage → Type 0
-IsEarly Unopened = ⊤
-IsEarly Declaring = ⊤
-IsEarly Listing = ⊤
-IsEarly _ = ⊥
-
-abbrev IsClaimAt : Stage → Claim → Type 0
-IsClaimAt stage claim = (stage ≡ Claimed claim) ⊎ (stage ≡ Closed claim)
+-- what is so at the stage: a step stands only behind the constraints, and what is claimed is explained
+abbrev AtStage : Stage → Draft → Type 0
+AtStage Proving d = ⊤
+AtStage (Claimed claim) d = IsExplained d.book claim × IsOver d.book claim
+AtStage (Closed claim) d = IsExplained d.book claim × IsOver d.book claim
+AtStage stage d = d.proved ≡ []
 
 record Keeps (d : Draft) : Type 0 where
-  early : IsEarly d.stage → d.proved ≡ []
   explained : (p : Pair) → Contains d.proved p → IsPairExplained d.book p
-  claimed : (claim : Claim) → IsClaimAt d.stage claim → IsExplained d.book claim
-  over : (claim : Claim) → IsClaimAt d.stage claim → IsOver d.book claim
+  stage : AtStage d.stage d
 
-early_unclaimed : (stage : Stage) (claim : Claim) → IsEarly stage → IsClaimAt stage claim → ⊥
-early_unclaimed Unopened claim h c = elim c [ inl e ↦ cc | inr e ↦ cc ]
-early_unclaimed Declaring claim h c = elim c [ inl e ↦ cc | inr e ↦ cc ]
-early_unclaimed Listing claim h c = elim c [ inl e ↦ cc | inr e ↦ cc ]
-early_unclaimed Proving claim h c = absurd h
-early_unclaimed (Claimed k) claim h c = absurd h
-early_unclaimed (Closed k) claim h c = absurd h
+none_proved : (stage : Stage) (d : Draft) → ((MayList stage → ⊥) → ⊥) → AtStage stage d → d.proved ≡ []
+none_proved Declaring d may at = at
+none_proved Listing d may at = at
+none_proved _ d may at = absurd (may (λ h. h))
 
-early_header : (stage : Stage) → ((MayFollow stage Header → ⊥) → ⊥) → IsEarly stage
-early_header Unopened h = tt
-early_header Declaring h = tt
-early_header Listing h = tt
-early_header Proving h = absurd (h (λ e. cc))
-early_header (Claimed c) h = absurd (h (λ e. cc))
-early_header (Closed c) h = absurd (h (λ e. cc))
-
-early_variable : (stage : Stage) → ((stage ≡ Declaring → ⊥) → ⊥) → IsEarly stage
-early_variable Unopened h = tt
-early_variable Declaring h = tt
-early_variable Listing h = tt
-early_variable Proving h = absurd (h (λ e. cc))
-early_variable (Claimed c) h = absurd (h (λ e. cc))
-early_variable (Closed c) h = absurd (h (λ e. cc))
-
-early_constraint : (stage : Stage) → ((MayList stage → ⊥) → ⊥) → IsEarly stage
-early_constraint Unopened h = tt
-early_constraint Declaring h = tt
-early_constraint Listing h = tt
-early_constraint Proving h = absurd (h (λ e. e))
-early_constraint (Claimed c) h = absurd (h (λ e. e))
-early_constraint (Closed c) h = absurd (h (λ e. e))
-
--- a draft in which nothing is proved and nothing claimed
-keeps_early : (d : Draft) → IsEarly d.stage → d.proved ≡ [] → Keeps d
-keeps_early d early none = record {
-  early = λ h. none;
-  explained = λ p m. absurd (member_nil p (subst (λ ps. Contains ps p) none m));
-  claimed = λ claim c. absurd (early_unclaimed d.stage claim early c);
-  over = λ claim c. absurd (early_unclaimed d.stage claim early c);
-}
-
-no_claim : (claim : Claim) → IsClaimAt Proving claim → ⊥
-no_claim claim c = elim c [ inl e ↦ cc | inr e ↦ cc ]
-
-same_claim : (a claim : Claim) → IsClaimAt (Claimed a) claim → a ≡ claim
-same_claim a claim c = elim c [ inl e ↦ cc | inr e ↦ cc ]
-
-closed_claim : (a claim : Claim) → IsClaimAt (Closed a) claim → a ≡ claim
-closed_claim a claim c = elim c [ inl e ↦ cc | inr e ↦ cc ]
-
-keeps_claim : (d : Draft) (claim : Claim) → Keeps d → IsExplained d.book claim → IsOver d.book claim → Keeps (at_stage d (Claimed claim))
-keeps_claim d claim keeps is over = record {
-  early = λ h. absurd h;
-  explained = keeps.explained;
-  claimed = λ other c. subst (IsExplained d.book) (same_claim claim other c) is;
-  over = λ other c. subst (IsOver d.book) (same_claim claim other c) over;
-}
+-- a draft in which nothing is proved
+keeps_none : (d : Draft) → d.proved ≡ [] → AtStage d.stage d → Keeps d
+keeps_none d none at = record { explained = λ p m. absurd (member_nil p (subst (λ ps. Contains ps p) none m)); stage = at }
 
 keeps_step : (d : Draft) (pair : Pair) → Keeps d → IsPairExplained d.book pair → Keeps (with_step d pair)
 keeps_step d pair keeps is = record {
-  early = λ h. absurd h;
   explained = λ p m. elim (Contains-push_cases d.proved pair p m) [
     | inl o ↦ keeps.explained p o
     | inr e ↦ subst (IsPairExplained d.book) e is
   ];
-  claimed = λ claim c. absurd (no_claim claim c);
-  over = λ claim c. absurd (no_claim claim c);
+  stage = tt;
 }
 
 -- explained is what leads to a contradiction, so what is not refuted serves
@@ -161,13 +108,15 @@ by_two book pair P twice h d inside closed has = twice (λ p. h p d inside close
 keeps_leads : (d e : Draft) (line : List ℕ) (s : Statement CertificatePhrase) → Keeps d → Says line s → IsNone (Meets d s) in_order → of_texts.Leads of_certificates d s e → Keeps e
 keeps_leads d e line Comment keeps says none leads = subst Keeps (sym leads) keeps
 keeps_leads d e line (Phrase Header) keeps says none leads =
-    subst Keeps (sym leads) (keeps_early (at_stage d Declaring) tt (keeps.early (early_header d.stage none.0)))
+    subst Keeps (sym leads) (record { explained = keeps.explained; stage = subst (λ s. AtStage s d) (settled (is_unopened d.stage) none.0) keeps.stage })
 keeps_leads d e line (Variable name domain) keeps says none leads =
-    let early = early_variable d.stage none.0 in
-    subst Keeps (sym leads) (keeps_early (with_variable d name _) early (keeps.early early))
+    let stands = settled (is_declaring d.stage) none.0 in
+    let proved : d.proved ≡ [] = subst (λ s. AtStage s d) stands keeps.stage in
+    let next = with_variable d name (values_in domain) in
+    subst Keeps (sym leads) (keeps_none next proved (subst (λ s. AtStage s next) (sym stands) proved))
 keeps_leads d e line (Constraint name shape) keeps says none leads =
-    let early = early_constraint d.stage none.0 in
-    subst Keeps (sym leads.2) (keeps_early (with_constraint d name leads.0) tt (keeps.early early))
+    let proved = none_proved d.stage d none.0 keeps.stage in
+    subst Keeps (sym leads.2) (keeps_none (with_constraint d name leads.0) proved proved)
 keeps_leads d e line (Phrase (Step name value by reasons)) keeps says none leads =
     let pair : Pair = leads.0 in
     let members = reason_member d.proved reasons says.2.1 none.1.1.1.0 in
@@ -177,7 +126,7 @@ keeps_leads d e line (Phrase (Step name value by reasons)) keeps says none leads
 keeps_leads d e line (Phrase (ValueClaim name value)) keeps says none leads =
     let pair : Pair = leads.0 in
     let is : IsPairExplained d.book pair = by_two d.book pair (Contains d.proved pair) (λ out. none.1.1.1.1.1.0 (pair, leads.1, out)) (keeps.explained pair) in
-    subst Keeps (sym leads.2) (keeps_claim d (Gone pair) keeps is leads.1.variable.declared)
+    subst Keeps (sym leads.2) (record { explained = keeps.explained; stage = (is, leads.1.variable.declared) })
 keeps_leads d e line (Phrase (ConflictClaim name)) keeps says none leads =
     let x : ℕ = leads.0 in
     let is : IsExplained d.book (Conflict x) = (
@@ -185,45 +134,33 @@ keeps_leads d e line (Phrase (ConflictClaim name)) keeps says none leads =
       λ v. by_two d.book (record { var = x; value = v }) (IsReached d.book d.proved (Conflict x)) (λ out. none.1.1.1.1.1.0 (x, leads.1, out))
           (λ reached g inside closed has. keeps.explained (record { var = x; value = v }) (reached v (inside x v has)) g inside closed has),
     ) in
-    subst Keeps (sym leads.2) (keeps_claim d (Conflict x) keeps is leads.1.declared)
+    subst Keeps (sym leads.2) (record { explained = keeps.explained; stage = (is, leads.1.declared) })
 keeps_leads d e line (Phrase End) keeps says none leads =
-    let is = keeps.claimed leads.0 (inl leads.1) in
-    let over = keeps.over leads.0 (inl leads.1) in
-    let ended : Keeps (at_stage d (Closed leads.0)) = record {
-      early = λ h. absurd h;
-      explained = keeps.explained;
-      claimed = λ other c. subst (IsExplained d.book) (closed_claim leads.0 other c) is;
-      over = λ other c. subst (IsOver d.book) (closed_claim leads.0 other c) over;
-    } in
-    subst Keeps (sym leads.2) ended
+    subst Keeps (sym leads.2) (record { explained = keeps.explained; stage = subst (λ s. AtStage s d) leads.1 keeps.stage })
 
 -- ---- the whole text
 
 ended_claim : (stage : Stage) (book : Contents) (n : ℕ) (proved : Proved) → Accepted proved ≡ ending stage book n → (stage ≡ Closed proved.claim) × (proved.book ≡ book)
-ended_claim Unopened book n proved e = cc
-ended_claim Declaring book n proved e = cc
-ended_claim Listing book n proved e = cc
-ended_claim Proving book n proved e = cc
-ended_claim (Claimed c) book n proved e = cc
 ended_claim (Closed c) book n proved e =
     let made : Proved = record { claim = c; book = book } in
     let same : proved ≡ made = cc in
     (ap (λ (p : Proved). Closed p.claim) (sym same), ap (λ (p : Proved). p.book) same)
+ended_claim _ book n proved e = cc
 
 judged_explained : (lines : List (List ℕ)) (d : Draft) (n : ℕ) (proved : Proved) → Keeps d → Judges certificates d n lines (Accepted proved) → IsExplained proved.book proved.claim × IsOver proved.book proved.claim
 judged_explained [] d n proved keeps j =
     let is = ended_claim d.stage d.book n proved j in
-    subst (λ (b : Contents). IsExplained b proved.claim × IsOver b proved.claim) (sym is.1) (keeps.claimed proved.claim (inr is.0), keeps.over proved.claim (inr is.0))
+    subst (λ (b : Contents). IsExplained b proved.claim × IsOver b proved.claim) (sym is.1) (subst (λ s. AtStage s d) is.0 keeps.stage)
 judged_explained (line ∷ lines) d n proved keeps j = elim j [
   | inl r ↦ let e : Accepted proved ≡ Refused n r.0 = r.2 in cc
   | inr p ↦ judged_explained lines p.0 (n + 1) proved (keeps_leads d p.0 line p.1.statement keeps p.1.says p.1.none p.1.leads) p.2
 ]
 
 pub accepted_explained : (bytes : List ℕ) (proved : Proved) → IsVerdict bytes (Accepted proved) → IsExplained proved.book proved.claim
-accepted_explained bytes proved is = (judged_explained is.lines blank 1 proved (keeps_early blank tt refl) is.judged).0
+accepted_explained bytes proved is = (judged_explained is.lines blank 1 proved (keeps_none blank refl refl) is.judged).0
 
 pub verdict_over : (bytes : List ℕ) (verdict : Verdict) → IsVerdict bytes verdict → IsOverItsBook verdict
-verdict_over bytes (Accepted proved) is = (judged_explained is.lines blank 1 proved (keeps_early blank tt refl) is.judged).1
+verdict_over bytes (Accepted proved) is = (judged_explained is.lines blank 1 proved (keeps_none blank refl refl) is.judged).1
 verdict_over bytes (Refused line cause) is = tt
 
 pub accepted_conflict : (bytes : List ℕ) (proved : Proved) (x : ℕ) → IsVerdict bytes (Accepted proved) → proved.claim ≡ Conflict x → IsConflict (initial_of proved.book) (Contains (constraints_of proved.book))

@@ -4,9 +4,10 @@ use Rattle.std.specs.List.{flat_map}
 use Rattle.std.proofs.lemmas.Bool.{and_parts, and_from, leb-true, le-leb}
 use Rattle.std.proofs.lemmas.Int.{ints}
 use Rattle.std.proofs.lemmas.List.Elements.{All-cons, All-nil, All-from_recursion, recursion_from_All}
-use Rattle.std.proofs.lemmas.Option.{same_Some, none-some, some_pair_parts}
+use Rattle.std.proofs.lemmas.Option.{same_Some, none-some}
 use Rattle.palm_model.specs.Limits.{IsValue}
 use Rattle.palm_read.specs.declared.tokens.TokenKind.TheVariants.{Word, Digits, Sign}
+use Rattle.palm_read.specs.Bounds.{IsFromOneTo}
 use Rattle.palm_read.specs.Form.{Form}
 use Rattle.palm_read.specs.Grammar.{IsForm}
 use Rattle.palm_read.specs.Piece.{Piece, Keyword, Named, Integer, Natural, numeral, word, sign, digits_number}
@@ -14,13 +15,14 @@ use Rattle.palm_read.specs.Reader.Lines.{header_at as session_header_at, numbere
 use Rattle.palm_read.specs.Reader.Steps.{Reading, and_then, when, choose, is_empty, is_name, front_text, token_at, behind, keyword_at, name_at, natural_at, integer_at}
 use Rattle.palm_read.specs.Token.{Lexeme, tokens_of}
 use Rattle.palm_read.proofs.cited.Begins.{Begins, over, begins_over, begins_from_spells, spells_from_begins, by_keyword, by_name, by_digits, by_integer, keyword_first, name_first, natural_first, integer_first}
-use Rattle.palm_read.proofs.cited.Front.{Starts, digits_first, minus_first, and_then_some, when_some, guard_some, same_text, token_at-cons, behind-cons, behind_is, name_is, name_at-cons, integer_at-starts}
-use Rattle.palm_read.proofs.cited.LineForms.{form_again}
+use Rattle.palm_read.proofs.cited.Front.{Starts, and_then_some, when_some, guard_some, same_text, token_at-cons, behind-cons, behind_is, name_at-cons, integer_at-starts}
+use Rattle.palm_read.proofs.cited.LineForms.{conflict_word, empty_is, form_again}
 use Rattle.palm_read.proofs.cited.Many.{IsItem, many_at_takes, many_at_again}
+use Rattle.palm_read.proofs.cited.Names.{moved, not_none, not_some, same_item, same_rest, starts_no_name}
 use Rattle.palm_read.proofs.cited.PlainTokens.{IsKnown, digits_known, sign_known, spelled_known, word_known}
-use Rattle.palm_claim.specs.Reader.{is_value, value_at, is_step_number, next_number, has_some, numbers_at, reasons_at, step_at, claim_at, header_at, is_lead, phrase_at}
-use Rattle.palm_claim.specs.Statement.{header, phrases, reasons_pieces, step_pieces, value_claim_pieces, conflict_claim_pieces, IsSpelled, IsStepNumber, AreInRange}
-use Rattle.palm_claim.specs.Phrases.{ArePhrases, begins_phrase}
+use Rattle.palm_claim.specs.Reader.{is_number, is_value, value_at, next_number, has_some, numbers_at, reasons_at, step_at, claim_at, header_at, is_lead, phrase_at}
+use Rattle.palm_claim.specs.Statement.{phrases, reasons_pieces, step_pieces, value_claim_pieces, conflict_claim_pieces, IsSpelled, IsStepNumber, AreInRange}
+use Rattle.palm_claim.specs.Phrases.{ArePhrases, begins_phrase, header_of}
 use Rattle.palm_claim.proofs.cited.Saying.{ended_phrase, lead_of, led_plain}
 use Rattle.palm_claim.specs.declared.statement.CertificatePhrase.{CertificatePhrase}
 use Rattle.palm_claim.specs.declared.statement.CertificatePhrase.TheVariants.{Header, Step, ValueClaim, ConflictClaim, End}
@@ -54,16 +56,17 @@ pub value_again : {tokens rest : List Lexeme} {v : ℤ} → Starts tokens v rest
 unfolding value_at and_then choose
 value_again {v = v} s is = rw (integer_at-starts s, value-is_value v is) refl
 
-step_number_from : (k : ℕ) → is_step_number k ≡ true → IsStepNumber k
-step_number_from k e =
-    let a = and_parts (nat_le 1 k) (nat_le k 4294967295) e in
+-- numbers counted from 1
+pub number_from : (most k : ℕ) → is_number most k ≡ true → IsFromOneTo most k
+number_from most k e =
+    let a = and_parts (nat_le 1 k) (nat_le k most) e in
     let one : 1 ≤ k = leb-true 1 k a.0 in
-    (omega (arith, one), leb-true k 4294967295 a.1)
+    (omega (arith, one), leb-true k most a.1)
 
-step_number_to : (k : ℕ) → IsStepNumber k → is_step_number k ≡ true
-step_number_to k is =
+pub number_to : (most k : ℕ) → IsFromOneTo most k → is_number most k ≡ true
+number_to most k is =
     let some = is.0 in
-    and_from (nat_le 1 k) (nat_le k 4294967295) (le-leb 1 k (omega (arith, some))) (le-leb k 4294967295 is.1)
+    and_from (nat_le 1 k) (nat_le k most) (le-leb 1 k (omega (arith, some))) (le-leb k most is.1)
 
 -- ---- numbers of steps
 
@@ -77,22 +80,16 @@ number_takes tokens rest a e =
       | inl w ↦
           let k : ℕ = digits_number w.0.0 in
           let g = guard_some w.2 in
-          let parts = some_pair_parts (Some k) (Some a) w.0.1 rest g.1 in
-          let same : k ≡ a = same_Some k a parts.0 in
-          let begun : Begins tokens (number_pieces k) w.0.1 = by_digits w.1 over in
-          (subst (λ b. Begins tokens (number_pieces b) rest) same (subst (λ r. Begins tokens (number_pieces k) r) parts.1 begun), subst IsStepNumber same (step_number_from k g.0))
-      | inr w ↦ absurd (none-some a (some_pair_parts None (Some a) tokens rest w.1).0)
+          (moved number_pieces tokens k a w.0.1 rest g.1 (by_digits w.1 over), subst IsStepNumber (same_item k a w.0.1 rest g.1).0 (number_from 4294967295 k g.0))
+      | inr w ↦ absurd (not_some a tokens rest w.1)
     ]
 
 number_leaves : (tokens rest : List Lexeme) → next_number tokens ≡ Some (None, rest) → rest ≡ tokens
 unfolding next_number
 number_leaves tokens rest e =
     elim (when_some e) [
-      | inl w ↦
-          let k : ℕ = digits_number w.0.0 in
-          let g = guard_some w.2 in
-          absurd (none-some k (sym (some_pair_parts (Some k) None w.0.1 rest g.1).0))
-      | inr w ↦ sym (some_pair_parts {A = Option ℕ} None None tokens rest w.1).1
+      | inl w ↦ absurd (not_none (digits_number w.0.0) w.0.1 rest (guard_some w.2).1)
+      | inr w ↦ same_rest {A = ℕ} tokens rest w.1
     ]
 
 number_again : (tokens rest : List Lexeme) (a : ℕ) → IsStepNumber a → Begins tokens (number_pieces a) rest → next_number tokens ≡ Some (Some a, rest)
@@ -100,7 +97,7 @@ unfolding next_number when choose
 number_again tokens rest a is b =
     let d = natural_first b in
     let made : ℕ → Option ℕ × List Lexeme = λ k. (Some k, rest) in
-    rw (d.2, token_at-cons Digits d.0 d.1, step_number_to (digits_number d.0) (subst IsStepNumber d.3 is), begins_over d.4) (ap (λ k. Some (made k)) (sym d.3))
+    rw (d.2, token_at-cons Digits d.0 d.1, number_to 4294967295 (digits_number d.0) (subst IsStepNumber d.3 is), begins_over d.4) (ap (λ k. Some (made k)) (sym d.3))
 
 pub number_item : IsItem next_number number_pieces IsStepNumber
 number_item = record {
@@ -160,7 +157,7 @@ reasons_again (k ∷ ks) tokens is b =
 
 -- the tokens begin with those of the phrase, and go on with the rest
 abbrev Spelt : List Lexeme → CertificatePhrase → List Lexeme → Type 0
-Spelt tokens Header rest = tokens ≡ header ++ rest
+Spelt tokens Header rest = tokens ≡ header_of (codes "cert") ++ rest
 Spelt tokens (Step name value by reasons) rest = Begins tokens (step_pieces name value by reasons) rest
 Spelt tokens (ValueClaim name value) rest = Begins tokens (value_claim_pieces name value) rest
 Spelt tokens (ConflictClaim name) rest = Begins tokens (conflict_claim_pieces name) rest
@@ -169,8 +166,8 @@ Spelt tokens End rest = Begins tokens (Keyword (codes "end") ∷ []) rest
 abbrev Taken : List Lexeme → CertificatePhrase × List Lexeme → Type 0
 Taken tokens x = Spelt tokens x.0 x.1 × AreInRange x.0
 
-moved : (tokens : List Lexeme) (made x : CertificatePhrase × List Lexeme) → ◌≡◌ {A = Reading CertificatePhrase} (Some made) (Some x) → Taken tokens made → Taken tokens x
-moved tokens made x e t = subst (Taken tokens) (same_Some made x e) t
+made_taken : (tokens : List Lexeme) (made x : CertificatePhrase × List Lexeme) → ◌≡◌ {A = Reading CertificatePhrase} (Some made) (Some x) → Taken tokens made → Taken tokens x
+made_taken tokens made x e t = subst (Taken tokens) (same_Some made x e) t
 
 step_takes : (tokens back : List Lexeme) (x : CertificatePhrase × List Lexeme) → keyword_at (codes "step") tokens ≡ Some back → step_at back ≡ Some x → Taken tokens x
 unfolding step_at
@@ -182,14 +179,8 @@ step_takes tokens back x k e =
     let reasons = and_then_some by.2 in
     let v = value_takes name.0.1 value.0 value.1 in
     let r = reasons_takes by.0.1 reasons.0 reasons.1 in
-    moved tokens (Step name.0.0 value.0.0 by.0.0 reasons.0.0, reasons.0.1) x reasons.2
+    made_taken tokens (Step name.0.0 value.0.0 by.0.0 reasons.0.0, reasons.0.1) x reasons.2
     (by_keyword k (by_name name.1 (by_integer v.0 (by_keyword rest.1 (by_name by.1 r.0)))), (v.1, r.1))
-
--- a name that is the word `conflict`
-conflict_word : (tokens : List Lexeme) (x : List ℕ × List Lexeme) → name_at tokens ≡ Some x → x.0 ≡ codes "conflict" → keyword_at (codes "conflict") tokens ≡ Some x.1
-conflict_word tokens x e same =
-    let is = (name_is tokens x e).0 in
-    ap (keyword_at (codes "conflict")) (is ∙ ap (λ w. word w ∷ x.1) same) ∙ behind-cons Word (codes "conflict") x.1
 
 claim_takes : (tokens back : List Lexeme) (x : CertificatePhrase × List Lexeme) → keyword_at (codes "claim") tokens ≡ Some back → claim_at back ≡ Some x → Taken tokens x
 unfolding claim_at
@@ -199,27 +190,24 @@ claim_takes tokens back x k e =
       | inl w ↦
           let g = guard_some w.2 in
           let same = same_text name.0.0 (codes "conflict") g.0 in
-          moved tokens (ConflictClaim w.0.0, w.0.1) x g.1 (by_keyword k (by_keyword (conflict_word back name.0 name.1 same) (by_name w.1 over)), tt)
+          made_taken tokens (ConflictClaim w.0.0, w.0.1) x g.1 (by_keyword k (by_keyword (conflict_word back name.0 name.1 same) (by_name w.1 over)), tt)
       | inr w ↦
           let value = and_then_some w.1 in
           let v = value_takes name.0.1 value.0 value.1 in
-          moved tokens (ValueClaim name.0.0 value.0.0, value.0.1) x value.2 (by_keyword k (by_name name.1 (by_integer v.0 over)), v.1)
+          made_taken tokens (ValueClaim name.0.0 value.0.0, value.0.1) x value.2 (by_keyword k (by_name name.1 (by_integer v.0 over)), v.1)
     ]
 
-header_takes : (tokens : List Lexeme) (x : CertificatePhrase × List Lexeme) → header_at tokens ≡ Some x → Taken tokens x
+pub header_takes : (kind : List ℕ) (tokens rest : List Lexeme) → header_at kind tokens ≡ Some rest → tokens ≡ header_of kind ++ rest
 unfolding header_at
-header_takes tokens x e =
+header_takes kind tokens rest e =
     let first = and_then_some e in
     let second = and_then_some first.2 in
     let third = and_then_some second.2 in
-    let rest = and_then_some third.2 in
     let a = behind_is Word (codes "palm") tokens first.0 first.1 in
     let b = behind_is Sign (codes "-") first.0 second.0 second.1 in
-    let c = behind_is Word (codes "cert") second.0 third.0 third.1 in
-    let d = behind_is Digits (codes "1") third.0 rest.0 rest.1 in
-    let spelt : tokens ≡ header ++ rest.0 =
-    a ∙ ap (λ ts. word (codes "palm") ∷ ts) (b ∙ ap (λ ts. sign (codes "-") ∷ ts) (c ∙ ap (λ ts. word (codes "cert") ∷ ts) d)) in
-    moved tokens (Header, rest.0) x rest.2 (spelt, tt)
+    let c = behind_is Word kind second.0 third.0 third.1 in
+    let d = behind_is Digits (codes "1") third.0 rest third.2 in
+    a ∙ ap (λ ts. word (codes "palm") ∷ ts) (b ∙ ap (λ ts. sign (codes "-") ∷ ts) (c ∙ ap (λ ts. word kind ∷ ts) d))
 
 phrase_takes : (tokens : List Lexeme) (x : CertificatePhrase × List Lexeme) → phrase_at tokens ≡ Some x → Taken tokens x
 unfolding phrase_at
@@ -229,15 +217,11 @@ phrase_takes tokens x e =
       | inr u ↦ elim (when_some u.1) [
         | inl w ↦ claim_takes tokens w.0 x w.1 w.2
         | inr v ↦ elim (when_some v.1) [
-          | inl w ↦ moved tokens (End, w.0) x w.2 (by_keyword w.1 over, tt)
-          | inr w ↦ header_takes tokens x w.1
+          | inl w ↦ made_taken tokens (End, w.0) x w.2 (by_keyword w.1 over, tt)
+          | inr w ↦ let rest = and_then_some w.1 in made_taken tokens (Header, rest.0) x rest.2 (header_takes (codes "cert") tokens rest.0 rest.1, tt)
         ]
       ]
     ]
-
-pub empty_is : (tokens : List Lexeme) → is_empty tokens ≡ true → tokens ≡ []
-empty_is [] e = refl
-empty_is (t ∷ ts) e = absurd cc
 
 spelt_spelled : (tokens : List Lexeme) (s : CertificatePhrase) → Spelt tokens s [] → IsSpelled tokens s
 spelt_spelled tokens Header h = h
@@ -263,11 +247,6 @@ step_again name value by reasons back is range b =
     let k = keyword_first i.2 in
     let m = name_first k.2 in
     rw (n.1, name_at-cons name n.0 n.2, value_again i.1 is, k.1, behind-cons Word (codes "by") k.0, m.1, name_at-cons by m.0 m.2, reasons_again reasons m.0 range m.3) refl
-
-starts_no_name : {tokens rest : List Lexeme} {z : ℤ} → Starts tokens z rest → name_at tokens ≡ None
-unfolding name_at token_at front_text and_then choose
-starts_no_name digits_first = refl
-starts_no_name minus_first = refl
 
 value_claim_again : (name : List ℕ) (value : ℤ) (back : List Lexeme) → IsValue value → Begins back (Named name ∷ Integer value ∷ []) [] → claim_at back ≡ Some (ValueClaim name value, [])
 unfolding claim_at and_then when
@@ -314,12 +293,12 @@ pub end_no_form : (rest : List Lexeme) → form_at (word (codes "end") ∷ rest)
 unfolding form_at line_at search_form_at bare_at behind token_at front_text and_then when choose
 end_no_form rest = refl
 
-header_no_form : form_at header ≡ None
+pub header_no_form : (kind : List ℕ) → form_at (header_of kind) ≡ None
 unfolding form_at line_at session_header_at bare_at behind token_at front_text and_then when choose
-header_no_form = refl
+header_no_form kind = refl
 
 no_form : (tokens : List Lexeme) (s : CertificatePhrase) → IsSpelled tokens s → form_at tokens ≡ None
-no_form tokens Header h = ap form_at h ∙ header_no_form
+no_form tokens Header h = ap form_at h ∙ header_no_form (codes "cert")
 no_form tokens (Step name value by reasons) h =
     let k = keyword_first (begins_from_spells (step_pieces name value by reasons) tokens h) in
     let n = name_first k.2 in
@@ -343,7 +322,7 @@ led_spelled tokens (ConflictClaim name) h = let k = keyword_first (begins_from_s
 led_spelled tokens End h = let k = keyword_first (begins_from_spells (Keyword (codes "end") ∷ []) tokens h) in lead_of is_lead (codes "end") tokens k.0 k.1
 
 -- the tokens of a header by this word are known
-pub header_known : (kind : List ℕ) (tokens : List Lexeme) → tokens ≡ word (codes "palm") ∷ sign (codes "-") ∷ word kind ∷ numeral (codes "1") ∷ [] → All IsKnown tokens
+pub header_known : (kind : List ℕ) (tokens : List Lexeme) → tokens ≡ header_of kind → All IsKnown tokens
 header_known kind tokens h =
     let one : List Lexeme = numeral (codes "1") ∷ [] in
     let rest : List Lexeme = word kind ∷ one in

@@ -1,12 +1,11 @@
 -- What a checker finds of a step: the one constraint that has its name, whether its reasons are earlier, and that its pairs
 -- stay declared.
-use Rattle.std.proofs.Common.{◌≡◌, ◌≢◌, ℕ, zero, suc, ℤ, ◌<◌, ◌≤◌, Option, Some, None, IfSome, List, [], ◌∷◌, ◌++◌, length, get_or, slice_get, All, Any, AllPairs, Contains, ◌⊎◌, inl, inr, refl, sym, ap, ◌∙◌, subst, arith}
+use Rattle.std.proofs.Common.{◌≡◌, ◌≢◌, ℕ, zero, suc, ℤ, ◌<◌, ◌≤◌, Some, IfSome, List, [], ◌∷◌, ◌++◌, length, get_or, slice_get, All, Any, AllPairs, Contains, inl, inr, refl, sym, ap, ◌∙◌, subst, arith}
 use Rattle.std.proofs.lemmas.Bool.{cases_lt}
 use Rattle.std.proofs.lemmas.List.{get_or_default, map_push}
 use Rattle.std.proofs.lemmas.List.Elements.{All-contains, All-weaker}
-use Rattle.std.proofs.lemmas.Option.{none-some, slice_get_cases}
 use Rattle.palm_base.specs.declared.terms.Pair.{Pair}
-use Rattle.palm_base.proofs.cited.Members.{Known, all_members, any_known, member_get, member_unmap}
+use Rattle.palm_base.proofs.cited.Members.{all_members, member_get, member_unmap}
 use Rattle.palm_book.specs.Book.{Contents, BookVar, initial_of, with_variable}
 use Rattle.palm_book.specs.declared.book.BookCon.{BookCon}
 use Rattle.palm_book.proofs.cited.Any.{any_member, member_any}
@@ -14,6 +13,9 @@ use Rattle.palm_model.specs.Domains.{Domains, Has, without}
 use Rattle.palm_model.specs.Support.{LacksSupport}
 use Rattle.palm_claim.specs.Statement.{IsStepNumber}
 use Rattle.palm_claim.specs.Step.{IsRight, pair_at, pairs_at}
+use Rattle.palm_book.proofs.cited.Naming.{some_known}
+use Rattle.palm_read.proofs.cited.KnownLimits.{above_known}
+use Rattle.palm_claim.proofs.cited.Asked.{settled}
 use Rattle.palm_claim.proofs.cited.Explained.{proved_member}
 
 -- ---- names
@@ -64,27 +66,21 @@ reasons_fit proved reasons range early = all_members (λ k. (1 ≤ k) × (k ≤ 
 
 -- some reason is late where not all are early
 pub some_late : (proved : List Pair) (reasons : List ℕ) → (All (λ k. k ≤ length proved) reasons → ⊥) → Any (λ k. length proved < k) reasons
-some_late proved reasons late = elim (any_known (λ k. length proved < k) reasons (λ k m. above_known (length proved) k)) [
-  | inl r ↦ any_member (λ k. length proved < k) reasons r.0 r.1 r.2
-  | inr none ↦ absurd (late (all_members (λ k. k ≤ length proved) reasons (λ k m. elim (cases_lt (length proved) k) [
-    | inl l ↦ absurd (none k m l)
-    | inr h ↦ h
-  ])))
-]
-  where
-    above_known : (m n : ℕ) → Known (m < n)
-    above_known m n = elim (cases_lt m n) [ inl l ↦ inl l | inr g ↦ inr (λ l. absurd (omega (arith, l, g))) ]
+some_late proved reasons late = settled (some_known (λ k. length proved < k) reasons (above_known (length proved)))
+    (λ none. late (all_members (λ k. k ≤ length proved) reasons (λ k m. elim (cases_lt (length proved) k) [
+      | inl l ↦ absurd (none (any_member (λ j. length proved < j) reasons k m l))
+      | inr h ↦ h
+    ])))
+
+-- a member stands at each place within the list
+pub some_at : {X : Type 0} (xs : List X) (place : ℕ) → place < length xs → (x : X) × (slice_get xs place ≡ Some x)
+some_at [] place lt = absurd (omega (arith, lt))
+some_at (x ∷ xs) zero lt = (x, refl)
+some_at (x ∷ xs) (suc place) lt = some_at xs place (omega (arith, lt))
 
 -- the constraint that was found by its name
 pub found_at : (cs : List BookCon) (place : ℕ) (by : List ℕ) → IfSome (slice_get cs place) (λ c. c.name ≡ by) → place < length cs → (c : BookCon) × (slice_get cs place ≡ Some c) × (c.name ≡ by)
-found_at cs place by found lt = go (slice_get cs place) refl found
-  where
-    go : (o : Option BookCon) → slice_get cs place ≡ o → IfSome o (λ c. c.name ≡ by) → (c : BookCon) × (slice_get cs place ≡ Some c) × (c.name ≡ by)
-    go None e f = absurd (past (slice_get_cases cs place) e)
-      where
-        past : (slice_get cs place ≡ slice_get cs place) × (((c : BookCon) × (place < length cs) × (slice_get cs place ≡ Some c) × (get_or cs place c ≡ c)) ⊎ ((length cs ≤ place) × (slice_get cs place ≡ None))) → slice_get cs place ≡ None → ⊥
-        past r e = elim r.1 [ inl s ↦ none-some s.0 (sym e ∙ s.2) | inr s ↦ omega (arith, s.0, lt) ]
-    go (Some c) e f = (c, e, f)
+found_at cs place by found lt = let c = some_at cs place lt in (c.0, c.1, rw c.1 at found)
 
 -- ---- declared pairs
 

@@ -80,7 +80,7 @@ pair_takes text form spelled proper tokens back x k e =
     moved tokens (form name.0.0 value.0.0, value.0.1) x value.2 (begins, proper name.0.0 value.0.0)
 
 -- a name that is the word `conflict`
-conflict_word : (tokens : List Lexeme) (x : List ℕ × List Lexeme) → name_at tokens ≡ Some x → x.0 ≡ codes "conflict" → keyword_at (codes "conflict") tokens ≡ Some x.1
+pub conflict_word : (tokens : List Lexeme) (x : List ℕ × List Lexeme) → name_at tokens ≡ Some x → x.0 ≡ codes "conflict" → keyword_at (codes "conflict") tokens ≡ Some x.1
 conflict_word tokens x e same =
     let is = (name_is tokens x e).0 in
     ap (keyword_at (codes "conflict")) (is ∙ ap (λ w. word w ∷ x.1) same) ∙ behind-cons Word (codes "conflict") x.1
@@ -266,7 +266,7 @@ line_takes tokens x e =
       ]
     ]
 
-empty_is : (tokens : List Lexeme) → is_empty tokens ≡ true → tokens ≡ []
+pub empty_is : (tokens : List Lexeme) → is_empty tokens ≡ true → tokens ≡ []
 empty_is [] e = refl
 empty_is (t ∷ ts) e = absurd cc
 

@@ -83,7 +83,7 @@ impl<'a> Cursor<'a> {
 
     /// Reads so many names or more, as long as a name stands in front.
     #[tactic(auto, unfolding(crate::specs::Reader::Lists::names_at, crate::specs::Reader::Steps::and_then, crate::specs::Reader::Steps::choose))]
-    pub(crate) fn names(&mut self, alloc: Global, least: usize) -> Result<NameList, LineError>
+    pub fn names(&mut self, alloc: Global, least: usize) -> Result<NameList, LineError>
         ensures { Gives (λ names. names) result self.new (names_at least self.old) }
     {
         let names = self.all_names(alloc)?;

@@ -25,7 +25,8 @@ use Rattle.palm_claim.specs.declared.verdict.Claim.TheVariants.{Conflict}
 use Rattle.palm_claim.specs.declared.ground.Ground.{Ground}
 use Rattle.palm_claim.specs.declared.ground.Ground.TheVariants.{By, Assumed, OfLemma}
 use Rattle.palm_claim.proofs.cited.Explained.{reason_member}
-use Rattle.proof_text.specs.Draft.{ArePairs, Draft, Notes, at_stage, blank, given_in, users_of, with_constraint, with_lemma, with_step, with_variable, with_wipe}
+use Rattle.palm_claim.proofs.cited.ProvedSteps.{same_constraint}
+use Rattle.proof_text.specs.Draft.{ArePairs, Draft, MayList, Notes, at_stage, blank, given_in, users_of, with_constraint, with_lemma, with_step, with_variable, with_wipe}
 use Rattle.proof_text.specs.Sound.{IsBacked}
 use Rattle.proof_text.specs.Statement.{IsGroundInRange, Says}
 use Rattle.proof_text.specs.Users.{AreOfTheirBook, AreUsed, IsAmong, by_lemma, by_step}
@@ -33,7 +34,7 @@ use Rattle.proof_text.specs.Verdict.{IsUnprovedGround, IsVerdict, Meets, ending,
 use Rattle.proof_text.specs.declared.lemma.Lemma.{Lemma}
 use Rattle.proof_text.specs.declared.statement.NamedPair.{NamedPair}
 use Rattle.proof_text.specs.declared.statement.Stage.{Stage}
-use Rattle.proof_text.specs.declared.statement.Stage.TheVariants.{Unopened, Declaring, Listing, Reasoning, Wiped, Told, Closed}
+use Rattle.proof_text.specs.declared.statement.Stage.TheVariants.{Declaring, Listing, Reasoning, Wiped, Told, Closed}
 use Rattle.palm_claim.specs.declared.statement.Statement.{Statement}
 use Rattle.palm_claim.specs.declared.statement.Statement.TheVariants.{Comment, Variable, Constraint, Phrase}
 use Rattle.proof_text.specs.declared.statement.ProofPhrase.{ProofPhrase}
@@ -41,9 +42,10 @@ use Rattle.proof_text.specs.declared.statement.ProofPhrase.TheVariants.{Header, 
 use Rattle.proof_text.specs.declared.verdict.ProofVerdict.{ProofVerdict}
 use Rattle.proof_text.specs.declared.verdict.ProofVerdict.TheVariants.{Accepted, Refused}
 use Rattle.palm_laws.proofs.cited.Solutions.{has_point, point_has, points, points_closed, points_inside}
-use Rattle.proof_text.proofs.Stages.{IsEarly, at_declaring, at_reasoning, at_unopened, at_wiped, early_constraint}
+use Rattle.proof_text.proofs.Stages.{is_declaring, is_reasoning, is_unopened, is_wiped}
+use Rattle.palm_claim.proofs.cited.Asked.{settled}
 use Rattle.proof_text.proofs.Steps.{right_lacks}
-use Rattle.proof_text.proofs.Excluding.{HasPairs, IsTrue, IsUsed, notes_longer, owner_once, solves_fewer, true_behind, used_among, used_more, users_listed, uses_longer}
+use Rattle.proof_text.proofs.Excluding.{HasPairs, IsTrue, IsUsed, notes_longer, solves_fewer, true_behind, used_among, used_more, users_listed, uses_longer}
 
 -- ---- what every draft keeps to
 
@@ -80,14 +82,10 @@ record Keeps (d : Draft) : Type 0 where
   lemmas : (l : Lemma) → Contains d.lemmas l → IsTrue d.book d.lemmas l
   stage : AtStage d.stage d
 
-early_lemmas : (stage : Stage) (d : Draft) → IsEarly stage → AtStage stage d → d.lemmas ≡ []
-early_lemmas Unopened d early at = at
-early_lemmas Declaring d early at = at
-early_lemmas Listing d early at = at
-early_lemmas Reasoning d early at = absurd early
-early_lemmas Wiped d early at = absurd early
-early_lemmas (Told users) d early at = absurd early
-early_lemmas (Closed users) d early at = absurd early
+early_lemmas : (stage : Stage) (d : Draft) → ((MayList stage → ⊥) → ⊥) → AtStage stage d → d.lemmas ≡ []
+early_lemmas Declaring d may at = at
+early_lemmas Listing d may at = at
+early_lemmas _ d may at = absurd (may (λ h. h))
 
 no_lemmas : (book : Contents) (lemmas : List Lemma) → lemmas ≡ [] → (l : Lemma) → Contains lemmas l → IsTrue book lemmas l
 no_lemmas book lemmas none l m = absurd (member_nil l (subst (λ ls. Contains ls l) none m))
@@ -131,7 +129,7 @@ step_backed : (d : Draft) (ground : Ground) (lemma : Lemma) (b : Assignment) (n 
 step_backed d (By name reasons) lemma b n keeps notes earlier solution = (
   earlier,
   λ c m named.
-      let same : notes.0 ≡ c = owner_once d.book.constraints notes.0 c keeps.apart notes.1 m (notes.2 ∙ sym named) in
+      let same : notes.0 ≡ c = same_constraint d.book.constraints notes.0 c keeps.apart notes.1 m (notes.2 ∙ sym named) in
       let noted = subst (λ (l : Lemma). Contains l.constraints notes.0.number) (sym notes.3) (Contains-push d.begun.constraints notes.0.number) in
       record { owner = c; listed = m; is = refl; uses = by_step lemma c.number (subst (λ (o : BookCon). Contains lemma.constraints o.number) same noted) },
 )
@@ -256,12 +254,12 @@ users_refuted d used is are free = record {
 keeps_leads : (d e : Draft) (line : List ℕ) (s : Statement ProofPhrase) → Keeps d → Says line s → IsNone (Meets d s) in_order → of_texts.Leads of_proofs d s e → Keeps e
 keeps_leads d e line Comment keeps says none leads = subst Keeps (sym leads) keeps
 keeps_leads d e line (Phrase Header) keeps says none leads =
-    let no_lemma : d.lemmas ≡ [] = subst (λ s. AtStage s d) (at_unopened d.stage none.0) keeps.stage in
+    let no_lemma : d.lemmas ≡ [] = subst (λ s. AtStage s d) (settled (is_unopened d.stage) none.0) keeps.stage in
     subst Keeps (sym leads) (keeps_at d Declaring keeps no_lemma)
 keeps_leads d e line (Variable name domain) keeps says none leads =
-    subst Keeps (sym leads) (keeps_variable d name (values_in domain) keeps (at_declaring d.stage none.0))
+    subst Keeps (sym leads) (keeps_variable d name (values_in domain) keeps (settled (is_declaring d.stage) none.0))
 keeps_leads d e line (Constraint name shape) keeps says none leads =
-    let no_lemma = early_lemmas d.stage d (early_constraint d.stage none.0) keeps.stage in
+    let no_lemma = early_lemmas d.stage d none.0 keeps.stage in
     subst Keeps (sym leads.2) (keeps_constraint d name leads.0 keeps no_lemma (λ has. none.1.0 (inl has)) leads.1.declared)
 keeps_leads d e line (Phrase (LemmaLine named)) keeps says none leads =
     let begun : Keeps (with_lemma d leads.0) = record {
@@ -272,18 +270,18 @@ keeps_leads d e line (Phrase (LemmaLine named)) keeps says none leads =
     } in
     subst Keeps (sym leads.2) begun
 keeps_leads d e line (Phrase (Step name value ground)) keeps says none leads =
-    let stands = at_reasoning d.stage none.0 in
+    let stands = settled (is_reasoning d.stage) none.0 in
     let pair : Pair = leads.0 in
     let proved = proved_more d pair ground leads.1 keeps (subst (λ s. AtStage s d) stands keeps.stage) leads.2.variable.declared leads.3
     (earlier_reasons d ground says.2.1 none.1.1.1.0) (λ wrong. none.1.1.1.1.0 (pair, leads.2, wrong)) in
     subst Keeps (sym leads.4) (keeps_step d pair leads.1 keeps stands proved)
 keeps_leads d e line (Phrase (Wipe name)) keeps says none leads =
-    let proved : AreProved d.book d.lemmas d.begun d.proved = subst (λ s. AtStage s d) (at_reasoning d.stage none.0) keeps.stage in
+    let proved : AreProved d.book d.lemmas d.begun d.proved = subst (λ s. AtStage s d) (settled (is_reasoning d.stage) none.0) keeps.stage in
     subst Keeps (sym leads) (keeps_wipe d keeps (λ b solution has. none.1.0 (λ known.
     let x = variable_with d.book.variables name known in
     wiped_true d x.0 proved x.1 (λ out. none.1.1.1.1.1.0 (x.0, record { declared = x.1; named = x.2 }, out)) b solution has)))
 keeps_leads d e line (Phrase (Users names)) keeps says none leads =
-    let is : IsTrue d.book d.lemmas d.begun = subst (λ s. AtStage s d) (at_wiped d.stage none.0) keeps.stage in
+    let is : IsTrue d.book d.lemmas d.begun = subst (λ s. AtStage s d) (settled (is_wiped d.stage) none.0) keeps.stage in
     let refuted = users_refuted d leads.0 is leads.1 (λ bound. none.1.1.1.1.1.0 (λ are. bound are.free)) in
     subst Keeps (sym leads.2) (keeps_at d (Told (users_of leads.0)) keeps refuted)
 keeps_leads d e line (Phrase End) keeps says none leads =
@@ -293,16 +291,11 @@ keeps_leads d e line (Phrase End) keeps says none leads =
 
 -- where a text is accepted the stage is closed
 ended_closed : (stage : Stage) (book : Contents) (n : ℕ) (proved : Contents) (users : List Cid) → Accepted proved users ≡ ending stage book n → (stage ≡ Closed users) × (proved ≡ book)
-ended_closed Unopened book n proved users e = cc
-ended_closed Declaring book n proved users e = cc
-ended_closed Listing book n proved users e = cc
-ended_closed Reasoning book n proved users e = cc
-ended_closed Wiped book n proved users e = cc
-ended_closed (Told u) book n proved users e = cc
 ended_closed (Closed u) book n proved users e =
     let same : u ≡ users = cc in
     let is : proved ≡ book = cc in
     (ap (λ (us : List Cid). Closed us) same, is)
+ended_closed _ book n proved users e = cc
 
 judged_refuted : (lines : List (List ℕ)) (d : Draft) (n : ℕ) (book : Contents) (users : List Cid) → Keeps d → Judges proofs d n lines (Accepted book users) → AreRefuted book users
 judged_refuted [] d n book users keeps j =

@@ -1,31 +1,29 @@
 -- The phrases of proofs: the reader reads just the tokens of one, and none of them is a form of a session.
-use Rattle.std.proofs.Common.{◌≡◌, ℕ, ℤ, ◌≤◌, true, Option, Some, None, List, [], ◌∷◌, ◌++◌, length, map, All, codes, refl, sym, ap, ◌∙◌, subst, arith, inl, inr}
-use Rattle.std.specs.Bool.{⊤}
-use Rattle.std.specs.List.{flat_map, AllByRecursion}
-use Rattle.std.proofs.lemmas.Bool.{le-leb}
+use Rattle.std.proofs.Common.{◌≡◌, ℕ, ℤ, true, Some, None, List, [], ◌∷◌, ◌++◌, map, All, codes, refl, sym, ap, ◌∙◌, subst, arith, inl, inr}
+use Rattle.std.specs.List.{flat_map}
 use Rattle.std.proofs.lemmas.List.Elements.{All-from_recursion, recursion_from_All}
-use Rattle.std.proofs.lemmas.Option.{same_Some, none-some, some_pair_parts}
+use Rattle.std.proofs.lemmas.Option.{same_Some, none-some}
 use Rattle.palm_model.specs.Limits.{IsValue}
-use Rattle.palm_read.specs.declared.tokens.TokenKind.TheVariants.{Word, Digits, Sign}
+use Rattle.palm_read.specs.declared.tokens.TokenKind.TheVariants.{Sign}
 use Rattle.palm_read.specs.Form.{Form}
 use Rattle.palm_read.specs.Grammar.{IsForm}
-use Rattle.palm_read.specs.Piece.{Keyword, Named, Integer, word, sign}
-use Rattle.palm_read.specs.Reader.Lines.{header_at as session_header_at, bare_at, search_form_at, line_at, form_at}
-use Rattle.palm_read.specs.Reader.Lists.{names_at, next_name}
+use Rattle.palm_read.specs.Piece.{Keyword, Named, Integer, word}
+use Rattle.palm_read.specs.Reader.Lines.{bare_at, search_form_at, line_at, form_at}
 use Rattle.palm_read.specs.Reader.Steps.{Reading, and_then, when, choose, is_empty, front_text, token_at, behind, keyword_at, name_at}
 use Rattle.palm_read.specs.Token.{Lexeme, tokens_of}
-use Rattle.proof_text.proofs.cited.Names.{name_item, name_pieces}
+use Rattle.palm_read.proofs.cited.Names.{end_stops_names, moved, names_again, names_takes, not_none, not_some, same_item, same_rest}
 use Rattle.palm_read.proofs.cited.Begins.{Begins, over, begins_over, begins_from_spells, spells_from_begins, by_integer, by_keyword, by_mark, by_name, integer_first, keyword_first, mark_first, name_first}
-use Rattle.palm_read.proofs.cited.Front.{and_then_some, when_some, guard_some, behind-cons, behind_is, name_at-cons}
-use Rattle.palm_read.proofs.cited.LineForms.{form_again}
+use Rattle.palm_read.proofs.cited.Front.{and_then_some, when_some, behind-cons, name_at-cons}
+use Rattle.palm_read.proofs.cited.LineForms.{empty_is, form_again}
 use Rattle.palm_read.proofs.cited.Many.{IsItem, many_at_takes, many_at_again}
 use Rattle.palm_read.proofs.cited.PlainTokens.{IsKnown, spelled_known}
 use Rattle.palm_claim.specs.declared.ground.Ground.{Ground}
-use Rattle.palm_claim.specs.Phrases.{ArePhrases, begins_phrase}
-use Rattle.palm_claim.proofs.cited.Phrases.{empty_is, end_no_form, header_known, step_no_form, value_again, value_takes}
+use Rattle.palm_claim.specs.Phrases.{ArePhrases, begins_phrase, header_of}
+use Rattle.palm_claim.specs.Reader.{header_at}
+use Rattle.palm_claim.proofs.cited.Phrases.{end_no_form, header_known, header_no_form, header_takes, step_no_form, value_again, value_takes}
 use Rattle.palm_claim.proofs.cited.Saying.{ended_phrase, lead_of, led_plain}
-use Rattle.proof_text.specs.Reader.{header_at, is_lead, lemma_at, next_pair, phrase_at, step_at, users_at, wipe_at}
-use Rattle.proof_text.specs.Statement.{AreInRange, IsGroundInRange, IsSpelled, ground_pieces, header, lemma_pieces, pair_pieces, phrases, step_pieces, users_pieces, wipe_pieces}
+use Rattle.proof_text.specs.Reader.{is_lead, lemma_at, next_pair, phrase_at, step_at, users_at, wipe_at}
+use Rattle.proof_text.specs.Statement.{AreInRange, IsGroundInRange, IsSpelled, ground_pieces, lemma_pieces, pair_pieces, phrases, step_pieces, users_pieces, wipe_pieces}
 use Rattle.proof_text.specs.declared.statement.NamedPair.{NamedPair}
 use Rattle.proof_text.specs.declared.statement.ProofPhrase.{ProofPhrase}
 use Rattle.proof_text.specs.declared.statement.ProofPhrase.TheVariants.{Header, Lemma, Step, Wipe, Users, End}
@@ -45,23 +43,16 @@ pair_takes tokens rest a e =
           let value = and_then_some mark.2 in
           let v = value_takes mark.0 value.0 value.1 in
           let p : NamedPair = record { name = w.0.0; value = value.0.0 } in
-          let parts = some_pair_parts (Some p) (Some a) value.0.1 rest value.2 in
-          let same : p ≡ a = same_Some p a parts.0 in
-          let begun : Begins tokens (pair_pieces p) value.0.1 = by_name w.1 (by_mark mark.1 (by_integer v.0 over)) in
-          (subst (λ b. Begins tokens (pair_pieces b) rest) same (subst (λ r. Begins tokens (pair_pieces p) r) parts.1 begun), subst HasValue same v.1)
-      | inr w ↦ absurd (none-some a (some_pair_parts None (Some a) tokens rest w.1).0)
+          (moved pair_pieces tokens p a value.0.1 rest value.2 (by_name w.1 (by_mark mark.1 (by_integer v.0 over))), subst HasValue (same_item p a value.0.1 rest value.2).0 v.1)
+      | inr w ↦ absurd (not_some a tokens rest w.1)
     ]
 
 pair_leaves : (tokens rest : List Lexeme) → next_pair tokens ≡ Some (None, rest) → rest ≡ tokens
 unfolding next_pair
 pair_leaves tokens rest e =
     elim (when_some e) [
-      | inl w ↦
-          let mark = and_then_some w.2 in
-          let value = and_then_some mark.2 in
-          let p : NamedPair = record { name = w.0.0; value = value.0.0 } in
-          absurd (none-some p (sym (some_pair_parts (Some p) None value.0.1 rest value.2).0))
-      | inr w ↦ sym (some_pair_parts {A = Option NamedPair} None None tokens rest w.1).1
+      | inl w ↦ let value = and_then_some (and_then_some w.2).2 in absurd (not_none (record { name = w.0.0; value = value.0.0 }) value.0.1 rest value.2)
+      | inr w ↦ same_rest {A = NamedPair} tokens rest w.1
     ]
 
 pair_again : (tokens rest : List Lexeme) (a : NamedPair) → HasValue a → Begins tokens (pair_pieces a) rest → next_pair tokens ≡ Some (Some a, rest)
@@ -84,40 +75,11 @@ no_pair : next_pair [] ≡ Some (None, [])
 unfolding next_pair name_at token_at front_text and_then when
 no_pair = refl
 
--- ---- names
-
-names_same : (names : List (List ℕ)) → flat_map name_pieces names ≡ map Named names
-names_same [] = refl
-names_same (n ∷ ns) = ap (λ ps. Named n ∷ ps) (names_same ns)
-
-all_fit : (names : List (List ℕ)) → AllByRecursion (λ _. ⊤) names
-all_fit [] = tt
-all_fit (n ∷ ns) = (tt, all_fit ns)
-
-names_takes : (tokens : List Lexeme) (x : List (List ℕ) × List Lexeme) → names_at 0 tokens ≡ Some x → Begins tokens (map Named x.0) x.1
-unfolding names_at
-names_takes tokens x e =
-    let names = and_then_some e in
-    let all = many_at_takes next_name name_pieces (λ _. ⊤) name_item tokens names.0 names.1 in
-    let begun : Begins tokens (map Named names.0.0) names.0.1 = subst (λ ps. Begins tokens ps names.0.1) (names_same names.0.0) all.0 in
-    subst (λ (y : List (List ℕ) × List Lexeme). Begins tokens (map Named y.0) y.1) (same_Some names.0 x (guard_some names.2).1) begun
-
-no_name : next_name [] ≡ Some (None, [])
-unfolding next_name name_at token_at front_text and_then when
-no_name = refl
-
-names_again : (names : List (List ℕ)) (tokens : List Lexeme) → Begins tokens (map Named names) [] → names_at 0 tokens ≡ Some (names, [])
-unfolding names_at and_then choose
-names_again names tokens b =
-    let all = subst (λ ps. Begins tokens ps []) (sym (names_same names)) b in
-    let enough : 0 ≤ length names = omega arith in
-    rw (many_at_again next_name name_pieces (λ _. ⊤) name_item names tokens [] (all_fit names) all no_name, le-leb 0 (length names) enough) refl
-
 -- ---- forms
 
 -- the tokens begin with those of the phrase, and go on with the rest
 abbrev Spelt : List Lexeme → ProofPhrase → List Lexeme → Type 0
-Spelt tokens Header rest = tokens ≡ header ++ rest
+Spelt tokens Header rest = tokens ≡ header_of (codes "proof") ++ rest
 Spelt tokens (Lemma pairs) rest = Begins tokens (lemma_pieces pairs) rest
 Spelt tokens (Step name value ground) rest = Begins tokens (step_pieces name value ground) rest
 Spelt tokens (Wipe name) rest = Begins tokens (wipe_pieces name) rest
@@ -127,8 +89,8 @@ Spelt tokens End rest = Begins tokens (Keyword (codes "end") ∷ []) rest
 abbrev Taken : List Lexeme → ProofPhrase × List Lexeme → Type 0
 Taken tokens x = Spelt tokens x.0 x.1 × AreInRange x.0
 
-moved : (tokens : List Lexeme) (made x : ProofPhrase × List Lexeme) → ◌≡◌ {A = Reading ProofPhrase} (Some made) (Some x) → Taken tokens made → Taken tokens x
-moved tokens made x e t = subst (Taken tokens) (same_Some made x e) t
+made_taken : (tokens : List Lexeme) (made x : ProofPhrase × List Lexeme) → ◌≡◌ {A = Reading ProofPhrase} (Some made) (Some x) → Taken tokens made → Taken tokens x
+made_taken tokens made x e t = subst (Taken tokens) (same_Some made x e) t
 
 step_takes : (tokens back : List Lexeme) (x : ProofPhrase × List Lexeme) → keyword_at (codes "step") tokens ≡ Some back → step_at back ≡ Some x → Taken tokens x
 unfolding step_at
@@ -138,41 +100,26 @@ step_takes tokens back x k e =
     let ground = and_then_some value.2 in
     let v = value_takes name.0.1 value.0 value.1 in
     let g = ground_takes value.0.1 ground.0 ground.1 in
-    moved tokens (Step name.0.0 value.0.0 ground.0.0, ground.0.1) x ground.2 (by_keyword k (by_name name.1 (by_integer v.0 g.0)), (v.1, g.1))
+    made_taken tokens (Step name.0.0 value.0.0 ground.0.0, ground.0.1) x ground.2 (by_keyword k (by_name name.1 (by_integer v.0 g.0)), (v.1, g.1))
 
 lemma_takes : (tokens back : List Lexeme) (x : ProofPhrase × List Lexeme) → keyword_at (codes "lemma") tokens ≡ Some back → lemma_at back ≡ Some x → Taken tokens x
 unfolding lemma_at
 lemma_takes tokens back x k e =
     let pairs = and_then_some e in
     let t = many_at_takes next_pair pair_pieces HasValue pair_item back pairs.0 pairs.1 in
-    moved tokens (Lemma pairs.0.0, pairs.0.1) x pairs.2 (by_keyword k t.0, All-from_recursion HasValue pairs.0.0 t.1)
+    made_taken tokens (Lemma pairs.0.0, pairs.0.1) x pairs.2 (by_keyword k t.0, All-from_recursion HasValue pairs.0.0 t.1)
 
 wipe_takes : (tokens back : List Lexeme) (x : ProofPhrase × List Lexeme) → keyword_at (codes "wipe") tokens ≡ Some back → wipe_at back ≡ Some x → Taken tokens x
 unfolding wipe_at
 wipe_takes tokens back x k e =
     let name = and_then_some e in
-    moved tokens (Wipe name.0.0, name.0.1) x name.2 (by_keyword k (by_name name.1 over), tt)
+    made_taken tokens (Wipe name.0.0, name.0.1) x name.2 (by_keyword k (by_name name.1 over), tt)
 
 users_takes : (tokens back : List Lexeme) (x : ProofPhrase × List Lexeme) → keyword_at (codes "none") tokens ≡ Some back → users_at back ≡ Some x → Taken tokens x
 unfolding users_at
 users_takes tokens back x k e =
     let names = and_then_some e in
-    moved tokens (Users names.0.0, names.0.1) x names.2 (by_keyword k (names_takes back names.0 names.1), tt)
-
-header_takes : (tokens : List Lexeme) (x : ProofPhrase × List Lexeme) → header_at tokens ≡ Some x → Taken tokens x
-unfolding header_at
-header_takes tokens x e =
-    let first = and_then_some e in
-    let second = and_then_some first.2 in
-    let third = and_then_some second.2 in
-    let rest = and_then_some third.2 in
-    let a = behind_is Word (codes "palm") tokens first.0 first.1 in
-    let b = behind_is Sign (codes "-") first.0 second.0 second.1 in
-    let c = behind_is Word (codes "proof") second.0 third.0 third.1 in
-    let d = behind_is Digits (codes "1") third.0 rest.0 rest.1 in
-    let spelt : tokens ≡ header ++ rest.0 =
-    a ∙ ap (λ ts. word (codes "palm") ∷ ts) (b ∙ ap (λ ts. sign (codes "-") ∷ ts) (c ∙ ap (λ ts. word (codes "proof") ∷ ts) d)) in
-    moved tokens (Header, rest.0) x rest.2 (spelt, tt)
+    made_taken tokens (Users names.0.0, names.0.1) x names.2 (by_keyword k (names_takes 0 back names.0 names.1).0, tt)
 
 phrase_takes : (tokens : List Lexeme) (x : ProofPhrase × List Lexeme) → phrase_at tokens ≡ Some x → Taken tokens x
 unfolding phrase_at
@@ -186,8 +133,8 @@ phrase_takes tokens x e =
           | inr y ↦ elim (when_some y.1) [
             | inl w ↦ users_takes tokens w.0 x w.1 w.2
             | inr z ↦ elim (when_some z.1) [
-              | inl w ↦ moved tokens (End, w.0) x w.2 (by_keyword w.1 over, tt)
-              | inr w ↦ header_takes tokens x w.1
+              | inl w ↦ made_taken tokens (End, w.0) x w.2 (by_keyword w.1 over, tt)
+              | inr w ↦ let rest = and_then_some w.1 in made_taken tokens (Header, rest.0) x rest.2 (header_takes (codes "proof") tokens rest.0 rest.1, tt)
             ]
           ]
         ]
@@ -228,7 +175,7 @@ wipe_again name back b = let n = name_first b in rw (n.1, name_at-cons name n.0 
 
 users_again : (names : List (List ℕ)) (back : List Lexeme) → Begins back (map Named names) [] → users_at back ≡ Some (Users names, [])
 unfolding users_at and_then
-users_again names back b = rw (names_again names back b) refl
+users_again names back b = rw (names_again 0 names back [] (omega arith) b end_stops_names) refl
 
 -- the reader finds its way by the first word
 phrase_again : (tokens : List Lexeme) (s : ProofPhrase) → IsSpelled tokens s → AreInRange s → phrase_at tokens ≡ Some (s, [])
@@ -255,12 +202,8 @@ users_no_form : (rest : List Lexeme) → form_at (word (codes "none") ∷ rest) 
 unfolding form_at line_at search_form_at bare_at behind token_at front_text and_then when choose
 users_no_form rest = refl
 
-header_no_form : form_at header ≡ None
-unfolding form_at line_at session_header_at bare_at behind token_at front_text and_then when choose
-header_no_form = refl
-
 no_form : (tokens : List Lexeme) (s : ProofPhrase) → IsSpelled tokens s → form_at tokens ≡ None
-no_form tokens Header h = ap form_at h ∙ header_no_form
+no_form tokens Header h = ap form_at h ∙ header_no_form (codes "proof")
 no_form tokens (Lemma pairs) h = let k = keyword_first (begins_from_spells (lemma_pieces pairs) tokens h) in ap form_at k.1 ∙ lemma_no_form k.0
 no_form tokens (Step name value ground) h =
     let k = keyword_first (begins_from_spells (step_pieces name value ground) tokens h) in

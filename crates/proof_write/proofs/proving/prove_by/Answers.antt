@@ -15,7 +15,7 @@ use Rattle.palm_search.proofs.cited.Running.{interrupted_filters}
 use Rattle.palm_search.proofs.cited.Stopping.{order_stops}
 use Rattle.palm_dbt.proofs.cited.Answering.{answer_true}
 use Rattle.proof_write.proofs.Fitting.{book_users}
-use Rattle.proof_write.proofs.Running.{accepted_at, behind_end, ended_quietly, run_proves, stopped_with}
+use Rattle.proof_write.proofs.Running.{accepted_at, behind_end, cut_off, ended_quietly, run_proves, stopped_with}
 use Rattle.proof_write.proofs.proving.prove_by.Given as given
 use Rattle.proof_write.proofs.proving.prove_by.Goals as goal
 
@@ -41,7 +41,7 @@ returns-in_err-end g c =
     let result = c.from_residual.result in
     let broken : BreaksOff guided ordered c.args.budget s turns n.engine.now.state = record {
       cut = e.engine.now.state;
-      is = c.in_err-end.ensures.err;
+      is = cut_off c.in_err-end.ensures.stopped;
       middle = n.engine.now.state;
       withdraws = close.withdraws;
       filters = filters_none n.engine.now.state;

@@ -17,7 +17,7 @@ use Rattle.proof_write.specs.Numbers.{AreNumbers}
 use Rattle.proof_write.specs.declared.notes.Notes.{Notes}
 use Rattle.proof_write.specs.declared.numbers.LemmaNumbers.{LemmaNumbers}
 use Rattle.proof_write.proofs.Fitting.{book_users}
-use Rattle.proof_write.proofs.Running.{HasArgued, Stops, argued_alike, argued_deciding, argued_undoing, cut_behind, declaring_stops, left_by, lemma_here, lemma_written, proving_ends, proving_fits, proving_goes_on, proving_starts, proving_stops, stopped_quietly, stopped_with, stops_here, text_here, turn_stops, undoing_stops}
+use Rattle.proof_write.proofs.Running.{HasArgued, Stops, argued_alike, argued_deciding, argued_undoing, declaring_stops, left_by, lemma_here, lemma_written, proving_ends, proving_fits, proving_goes_on, proving_starts, proving_stops, stopped_quietly, stopped_with, stops_here, text_here, turn_stops, undoing_stops}
 use Rattle.proof_write.proofs.proving.run.Given as given
 use Rattle.proof_write.proofs.proving.run.Goals as goal
 use Rattle.proof_write.proofs.proving.run.Goals.{After-from_residual-in_err-note_last-in-Undo, After-settle-in-loop-notes, in-Decide+in_ok-decide-in-Decide, in-Undo+in_ok-write_lemma-in-Undo+in_ok-undo_latest-in-Undo+in_ok-note_last-in-Undo}
@@ -59,12 +59,6 @@ returns-in_err-settle-clause-stopped g c =
     let settle = c.settle.ensures in
     on_err _ c.from_residual-in_err-settle.result (by_first_settling (ap (λ (v : SearchView). v.journal) (settle.search ∙ c.requires.fresh)) settle.guide (order_stops a.order.now n.order.now a.engine.now n.engine.now c.in_err-settle.ensures.err))
 
-pub returns-in_err-settle-clause-err : goal.returns-in_err-settle-clause-err
-returns-in_err-settle-clause-err g c =
-    let a = c.args.machine.now in
-    let n = c.settle.new.self in
-    on_err _ c.from_residual-in_err-settle.result (cut_first (is_some a.guide.now) (is_some a.order.now) c.args.budget a.engine.now n.engine.now n.search.now (c.settle.ensures.search ∙ c.requires.fresh) c.in_err-settle.ensures.err.interrupted)
-
 pub returns-in_err-settle-clause-front : goal.returns-in_err-settle-clause-front
 returns-in_err-settle-clause-front g c =
     let a = c.args.machine.now in
@@ -95,13 +89,6 @@ loop-notes-init g c =
 
 -- ---- memory ran out before a turn
 
-pub returns-in_err-end-clause-err : goal.returns-in_err-end-clause-err
-returns-in_err-end-clause-err g c =
-    let a = c.args.machine.now in
-    let m = c.loop-notes.machine in
-    on_err _ c.from_residual-in_err-end.result
-    (cut_here (is_some a.guide.now) (is_some a.order.now) c.args.budget a.engine.now.state m.engine.now.state m.engine.now.state m.search.now m.search.now c.loop-notes.invariant.proving.by.running refl refl)
-
 pub returns-in_err-end-clause-stopped : goal.returns-in_err-end-clause-stopped
 returns-in_err-end-clause-stopped g c =
     let a = c.args.machine.now in
@@ -113,14 +100,6 @@ pub returns-in_err-end-clause-front : goal.returns-in_err-end-clause-front
 returns-in_err-end-clause-front g c =
     let m = c.loop-notes.machine in
     (stops_here c.loop-notes.invariant.proving m.search.now c.from_residual-in_err-end.result (stopped_with _ _ c.from_residual-in_err-end.ensures.1) refl).front
-
-pub returns-in_err-decide-in-Decide-clause-err : goal.returns-in_err-decide-in-Decide-clause-err
-returns-in_err-decide-in-Decide-clause-err g c =
-    let a = c.args.machine.now in
-    let m = c.loop-notes.machine in
-    let cut = c.in_err-decide-in-Decide.ensures.err in
-    on_err _ c.from_residual-in_err-decide-in-Decide.result
-    (cut_here (is_some a.guide.now) (is_some a.order.now) c.args.budget a.engine.now.state m.engine.now.state c.decide.new.self.engine.now.state m.search.now c.decide.new.self.search.now c.loop-notes.invariant.proving.by.running (λ i. (cut.0 i).state) cut.1)
 
 pub returns-in_err-decide-in-Decide-clause-stopped : goal.returns-in_err-decide-in-Decide-clause-stopped
 returns-in_err-decide-in-Decide-clause-stopped g c =
@@ -148,13 +127,6 @@ pub write_end-requires-clause-ends : goal.write_end-requires-clause-ends
 write_end-requires-clause-ends g c =
     let m = c.loop-notes.machine in
     (c.args.budget, subst (IsNext c.args.budget m.engine.now.state m.search.now) c.in-Ended.is c.in_ok-end.ensures)
-
-pub returns-in_err-write_end-in-Ended-clause-err : goal.returns-in_err-write_end-in-Ended-clause-err
-returns-in_err-write_end-in-Ended-clause-err g c =
-    let a = c.args.machine.now in
-    let m = c.loop-notes.machine in
-    on_err _ c.from_residual-in_err-write_end-in-Ended.result
-    (cut_here (is_some a.guide.now) (is_some a.order.now) c.args.budget a.engine.now.state m.engine.now.state m.engine.now.state m.search.now m.search.now c.loop-notes.invariant.proving.by.running refl refl)
 
 pub returns-in_err-write_end-in-Ended-clause-stopped : goal.returns-in_err-write_end-in-Ended-clause-stopped
 returns-in_err-write_end-in-Ended-clause-stopped g c =
@@ -186,13 +158,6 @@ pub write_lemma-requires-clause-fits : goal.write_lemma-requires-clause-fits
 write_lemma-requires-clause-fits g c =
     proving_fits c.loop-notes.invariant.proving c.store-store.ensures.valid c.requires.listed.initial c.requires.listed.active
 
-pub returns-in_err-write_lemma-in-Undo-clause-err : goal.returns-in_err-write_lemma-in-Undo-clause-err
-returns-in_err-write_lemma-in-Undo-clause-err g c =
-    let a = c.args.machine.now in
-    let m = c.loop-notes.machine in
-    on_err _ c.from_residual-in_err-write_lemma-in-Undo.result
-    (cut_here (is_some a.guide.now) (is_some a.order.now) c.args.budget a.engine.now.state m.engine.now.state m.engine.now.state m.search.now m.search.now c.loop-notes.invariant.proving.by.running refl refl)
-
 pub returns-in_err-write_lemma-in-Undo-clause-stopped : goal.returns-in_err-write_lemma-in-Undo-clause-stopped
 returns-in_err-write_lemma-in-Undo-clause-stopped g c =
     let a = c.args.machine.now in
@@ -213,15 +178,6 @@ returns-in_err-write_lemma-in-Undo-clause-front g c =
     (lemma_written proving conflict c.as_slice.result.now next.1 now (Err stop) c.as_slice.ensures c.in_err-write_lemma-in-Undo.ensures.lemma)).front
 
 -- ---- memory ran out behind it
-
-pub returns-in_err-undo_latest-in-Undo-clause-err : goal.returns-in_err-undo_latest-in-Undo-clause-err
-returns-in_err-undo_latest-in-Undo-clause-err g c =
-    let a = c.args.machine.now in
-    let m = c.loop-notes.machine in
-    let next = subst (IsNext c.args.budget m.engine.now.state m.search.now) c.in-Undo.is c.in_ok-end.ensures in
-    on_err _ c.from_residual-in_err-undo_latest-in-Undo.result
-    (cut_undoing (is_some a.guide.now) (is_some a.order.now) c.args.budget a.engine.now.state m.engine.now.state c.undo_latest.new.self.engine.now.state m.search.now c.undo_latest.new.self.search.now c.in-Undo.conflict
-    c.loop-notes.invariant.proving.by.running next.0 c.in_err-undo_latest-in-Undo.ensures.err)
 
 pub returns-in_err-undo_latest-in-Undo-clause-stopped : goal.returns-in_err-undo_latest-in-Undo-clause-stopped
 returns-in_err-undo_latest-in-Undo-clause-stopped g c =
@@ -246,17 +202,6 @@ returns-in_err-undo_latest-in-Undo-clause-front g c =
     (undoing_stops proving conflict c.undo_latest.new.self.engine.now.state c.undo_latest.new.self.search.now (text_here proving conflict next.1.var) now c.from_residual-in_err-undo_latest-in-Undo.result
     (stopped_with _ _ c.from_residual-in_err-undo_latest-in-Undo.ensures.1) c.in_err-undo_latest-in-Undo.ensures.err (a_lemma conflict next.0 next.2 (lemma_here proving conflict next.1))
     (lemma_written proving conflict c.as_slice.result.now next.1 now (Ok tt) c.as_slice.ensures c.in_ok-write_lemma-in-Undo.ensures.lemma)).front
-
-pub returns-in_err-note_last-in-Undo-clause-err : goal.returns-in_err-note_last-in-Undo-clause-err
-returns-in_err-note_last-in-Undo-clause-err g c =
-    let m = c.loop-notes.machine in
-    let so_far = c.loop-notes.invariant in
-    let next = subst (IsNext c.args.budget m.engine.now.state m.search.now) c.in-Undo.is c.in_ok-end.ensures in
-    let done = c.in_ok-undo_latest-in-Undo.ensures in
-    let turn = TurnUndo done.ok.0 c.in-Undo.conflict in
-    let after = c.undo_latest.new.self.search.now in
-    let takes = subst (λ b. TakesTurn b turn m.engine.now.state m.search.now c.undo_latest.new.self.engine.now.state after) so_far.runs.lent.guide done.ok.1 in
-    on_err _ c.from_residual-in_err-note_last-in-Undo.result (cut_behind so_far.proving turn c.undo_latest.new.self.engine.now.state after next.0 takes)
 
 pub returns-in_err-note_last-in-Undo-clause-stopped : goal.returns-in_err-note_last-in-Undo-clause-stopped
 returns-in_err-note_last-in-Undo-clause-stopped g c =
@@ -359,20 +304,6 @@ loop-notes-preserved g c =
           (g.K.Sink.state c.args.out.now) (g.K.Sink.state c.loop-notes.out) (g.K.Sink.state c.match-branch-4.out) so_far.proving so_far.runs.lent.guide (argued g at) settled);
       runs = runs_then so_far.runs (quiet g at) settle.runs;
     }
-
-pub returns-in_err-settle-2-clause-err : goal.returns-in_err-settle-2-clause-err
-returns-in_err-settle-2-clause-err g c =
-    let a = c.args.machine.now in
-    let m = c.loop-notes.machine in
-    let t = c.match-branch-4.machine in
-    let n = c.settle-in-loop-notes.new.self in
-    let so_far = c.loop-notes.invariant in
-    let at = (goal.at.returns-in_err-settle-2-clause-err g c).After-settle-in-loop-notes in
-    let taken = (argued g at).taken in
-    let takes = subst (λ b. TakesTurn b taken.turn m.engine.now.state m.search.now t.engine.now.state t.search.now) so_far.runs.lent.guide taken.takes in
-    let cut = interrupted_on (is_some a.order.now) m t n so_far.runs.lent.order (quiet g at) c.in_err-settle-2.ensures.err in
-    on_err _ c.from_residual-in_err-settle-2.result (rw c.settle-in-loop-notes.ensures.search
-    (cut_settling (is_some a.guide.now) (is_some a.order.now) c.args.budget a.engine.now.state m.engine.now.state m.search.now taken.turn t.engine.now n.engine.now t.search.now so_far.proving.by.running taken.left takes cut))
 
 pub returns-in_err-settle-2-clause-stopped : goal.returns-in_err-settle-2-clause-stopped
 returns-in_err-settle-2-clause-stopped g c =

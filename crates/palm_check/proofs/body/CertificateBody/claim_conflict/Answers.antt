@@ -1,51 +1,20 @@
-use Rattle.std.proofs.Common.{All, List, Ok, Err, Result, ℕ, ap, subst, sym}
-use Rattle.palm_base.specs.declared.terms.Pair.{Pair}
-use Rattle.palm_book.specs.Book.{Contents, initial_of}
-use Rattle.palm_book.proofs.cited.Pairs.{variable_known}
-use Rattle.palm_claim.specs.Draft.{Draft}
-use Rattle.palm_claim.specs.Verdict.{Meets}
-use Rattle.palm_claim.specs.declared.statement.Statement.TheVariants.{Phrase}
-use Rattle.palm_claim.specs.declared.statement.CertificatePhrase.TheVariants.{ConflictClaim}
-use Rattle.palm_claim.specs.declared.statement.Stage.TheVariants.{Claimed}
-use Rattle.palm_claim.specs.declared.verdict.Cause.{Cause}
-use Rattle.palm_claim.specs.declared.verdict.Claim.TheVariants.{Conflict}
-use Rattle.palm_claim.proofs.cited.Causes.{without_cause}
-use Rattle.palm_model.specs.Domains.{Has}
-use Rattle.text_check.specs.Steps.{ChecksWiped}
-use Rattle.text_check.proofs.cited.StepsChecked.{wiped_reached, wiped_refused}
-use Rattle.palm_check.specs.Kept.{said}
-use Rattle.palm_check.proofs.Keeping.{keeps_book}
+use Rattle.std.proofs.Common.{inr, refl}
 use Rattle.palm_check.proofs.body.CertificateBody.claim_conflict.Goals as goal
 
 pub check_wiped-requires-clause-proved : goal.check_wiped-requires-clause-proved
-check_wiped-requires-clause-proved c = subst (All (λ (q : Pair). Has (initial_of c.args.listed.now.book) q.var q.value)) (sym c.deref.ensures.value) c.requires.kept.kept
+check_wiped-requires-clause-proved c = rw c.deref.ensures.value c.requires.kept.kept
 
 pub returns-in-Ok-clause-takes : goal.returns-in-Ok-clause-takes
 returns-in-Ok-clause-takes c =
-    let book = c.args.listed.now.book in
-    let proved = c.args.self.now.proved.items in
-    let name = c.args.name.now in
-    let x = c.in-Ok.var in
-    let checks = subst (λ (ps : List Pair). ChecksWiped book ps name (Ok x)) c.deref.ensures.value
-    (subst (λ (r : Result ℕ Cause). ChecksWiped book c.deref.result.now name r) c.in-Ok.is c.check_wiped.ensures.checks) in (
-      without_cause (Meets (said book c.args.self.now) (Phrase (ConflictClaim name))) (λ n. n c.requires.stands) (λ m. m (variable_known book.variables name x checks.0))
-          (λ h. h) (λ h. h) (λ h. h) (wiped_reached book proved name x c.requires.kept.lists.formed.different_variables checks),
-      (x, checks.0, ap (λ (b : Contents). let d : Draft = record { stage = Claimed (Conflict x); book = b; proved = proved } in d) c.check_wiped.ensures.same),
-    )
+    let checks = rw (c.deref.ensures.value, c.in-Ok.is) at c.check_wiped.ensures.checks in
+    ((λ n. n c.requires.stands, checks.2), (c.in-Ok.var, checks.0, rw c.check_wiped.ensures.same refl))
 
 pub returns-in-Ok-clause-kept : goal.returns-in-Ok-clause-kept
-returns-in-Ok-clause-kept c = record { lists = c.check_wiped.ensures.listed; kept = keeps_book c.args.listed.now.book c.check_wiped.new.listed.book c.args.self.now.proved.items c.check_wiped.ensures.same c.requires.kept.kept }
+returns-in-Ok-clause-kept c = record { lists = c.check_wiped.ensures.listed; kept = rw c.check_wiped.ensures.same c.requires.kept.kept }
 
 pub returns-in-Err-clause-takes : goal.returns-in-Err-clause-takes
 returns-in-Err-clause-takes c =
-    let book = c.args.listed.now.book in
-    let proved = c.args.self.now.proved.items in
-    let name = c.args.name.now in
-    let cause = c.in-Err.cause in
-    let checks = subst (λ (ps : List Pair). ChecksWiped book ps name (Err cause)) c.deref.ensures.value
-    (subst (λ (r : Result ℕ Cause). ChecksWiped book c.deref.result.now name r) c.in-Err.is c.check_wiped.ensures.checks) in
-    wiped_refused (Meets (said book c.args.self.now) (Phrase (ConflictClaim name))) book proved (λ n. n c.requires.stands) (λ h. h) name cause
-    (λ h. h) (λ h. h) (λ unknown. unknown) (λ has m. m has) (λ unreached. unreached) checks
+    let checks = rw (c.deref.ensures.value, c.in-Err.is) at c.check_wiped.ensures.checks in inr (λ n. n c.requires.stands, checks)
 
 pub returns-in-Err-clause-kept : goal.returns-in-Err-clause-kept
-returns-in-Err-clause-kept c = record { lists = c.check_wiped.ensures.listed; kept = keeps_book c.args.listed.now.book c.check_wiped.new.listed.book c.args.self.now.proved.items c.check_wiped.ensures.same c.requires.kept.kept }
+returns-in-Err-clause-kept c = record { lists = c.check_wiped.ensures.listed; kept = rw c.check_wiped.ensures.same c.requires.kept.kept }

@@ -16,5 +16,5 @@ returns-clause-kept c =
       lists = c.requires.kept.lists;
       kept =
           keeps_step_by book now.lemmas now.begun now.assumed.items now.proved.items c.requires.kept.kept _ c.args.pair c.push-2.new.self.items con.number c.requires.declared c.in_ok-push-2.ensures.items
-          (ap (λ (ns : List ℕ). record now.begun { constraints = ns }) c.in_ok-push.ensures.ok) (omega (arith, most));
+          (ap (λ (ns : List ℕ). record now.begun { constraints = ns }) (rw c.from.ensures at c.in_ok-push.ensures.ok)) (omega (arith, most));
     }

@@ -1,7 +1,7 @@
 use Rattle.std.proofs.lemmas.Result.{err_from_is_err_and}
 use Rattle.std.proofs.Common.{[]}
 use Rattle.palm_read.specs.Reader.Lists.{next_name, many_at}
-use Rattle.palm_read.proofs.Items.{name_item}
+use Rattle.palm_read.proofs.cited.Names.{name_item}
 use Rattle.palm_read.proofs.cited.Many.{item_shortens, running_start, running_more, running_shorter, running_over, running_fails, plain_over}
 use Rattle.palm_read.proofs.reader.cursor.Cursor.all_names.Goals as goal
 

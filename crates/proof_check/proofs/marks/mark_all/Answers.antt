@@ -2,7 +2,7 @@ use Rattle.std.proofs.Common.{◌<◌, ℕ, List, Contains, get_or, length, take
 use Rattle.std.proofs.lemmas.List.{take_more}
 use Rattle.proof_check.specs.Marks.{MarksMore}
 use Rattle.proof_check.proofs.Marking.{marks_more, marks_none}
-use Rattle.proof_check.proofs.marks.mark_constraints.Goals as goal
+use Rattle.proof_check.proofs.marks.mark_all.Goals as goal
 
 pub mark-requires : goal.mark-requires
 mark-requires c =

@@ -3,12 +3,12 @@ use Rattle.std.proofs.lemmas.Bool.{and_parts, false_from_ne_true, leb-true}
 use Rattle.std.specs.Prelude.{nat_le}
 use Rattle.palm_base.proofs.cited.Numerals.{digits_too_large}
 use Rattle.palm_base.specs.Numbers.{digits_number}
-use Rattle.proof_text.specs.Reader.{is_lemma_number}
-use Rattle.proof_check.proofs.phrases.number_of.Goals as goal
+use Rattle.palm_claim.specs.Reader.{is_number}
+use Rattle.text_check.proofs.numbers.number_up_to.Goals as goal
 
 pub returns-in_err-number-clause-none : goal.returns-in_err-number-clause-none
 returns-in_err-number-clause-none c =
     let n = digits_number c.args.digits.now in
-    rw c.from_residual.ensures (false_from_ne_true (is_lemma_number n) (λ e.
-    let most : n ≤ 18446744073709551615 = leb-true n 18446744073709551615 (and_parts (nat_le 1 n) (nat_le n 18446744073709551615) e).1 in
+    rw c.from_residual.ensures (false_from_ne_true (is_number c.args.most n) (λ e.
+    let most : n ≤ c.args.most = leb-true n c.args.most (and_parts (nat_le 1 n) (nat_le n c.args.most) e).1 in
     absurd (omega (arith, most, digits_too_large c.args.digits.now c.requires c.in_err-number.ensures.none))))
