@@ -6,7 +6,7 @@ ghost use Rattle.palm_model.specs.Conflict.{InFlat, IsKeptConflict};
 ghost use Rattle.palm_base.specs.Order.{Rises};
 ghost use Rattle.palm_model.specs.Log.{Active, IsActive, IsListOf, cids_of, log_pairs};
 ghost use Rattle.palm_model.specs.State.{IsEmptyAt};
-ghost use Rattle.palm_explain.specs.CidSets.{IsJoined, IsMember};
+ghost use Rattle.palm_explain.specs.CidSets.{Adds};
 ghost use Rattle.palm_explain.specs.Explanations.{LacksExactly};
 ghost use Rattle.palm_engine.specs.Kept.{state_of};
 ghost use Rattle.palm_engine.specs.Posted.{actives_of};
@@ -38,7 +38,8 @@ pub(crate) fn conflict_of(
 fn add_flat<F: Filter>(posted: &[Posted<F>], cid: &Cid, cids: &mut CidSet) -> Result<(), NoMemory>
     requires rising { Rises (cids_of (actives_of F.meaning posted.now)) }
     requires active { IsActive (actives_of F.meaning posted.now) cid.now }
-    ensures { OnOk result (IsJoined (IsMember cids.old) (InFlat (actives_of F.meaning posted.now) (λ c. c ≡ cid.now)) (IsMember cids.new)) }
+    ensures { OnOk result
+        (Adds cids.old (InFlat (actives_of F.meaning posted.now) (λ c. c ≡ cid.now)) cids.new) }
 {
     match cid {
         Cid::Not(_) => posted[place_of(posted, cid)].add_justification(cids),
@@ -54,7 +55,8 @@ fn add_flat_each<F: Filter>(
 ) -> Result<(), NoMemory>
     requires rising { Rises (cids_of (actives_of F.meaning posted.now)) }
     requires active { (c : CidTerm) → Contains from.now c → IsActive (actives_of F.meaning posted.now) c }
-    ensures { OnOk result (IsJoined (IsMember cids.old) (InFlat (actives_of F.meaning posted.now) (Contains from.now)) (IsMember cids.new)) }
+    ensures { OnOk result
+        (Adds cids.old (InFlat (actives_of F.meaning posted.now) (Contains from.now)) cids.new) }
 {
     for cid in from {
         add_flat(posted, cid, cids)?;

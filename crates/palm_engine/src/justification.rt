@@ -1,7 +1,7 @@
 //! For which constraints a negation holds.
 ghost use Rattle.std.specs.Prelude.{◌≡◌, Contains, IfOk, OnOk};
 ghost use Rattle.palm_model.specs.Log.{is_named};
-ghost use Rattle.palm_explain.specs.CidSets.{IsJoined, IsMember};
+ghost use Rattle.palm_explain.specs.CidSets.{Adds};
 
 use palm_base::{Cid, CidList, NoMemory};
 use palm_explain::CidSet;
@@ -40,7 +40,7 @@ impl Justification {
 
     /// Adds the ids to a set.
     pub(crate) fn add_to(&self, cids: &mut CidSet) -> Result<(), NoMemory>
-        ensures { OnOk result (IsJoined (IsMember cids.old) (Contains self.now) (IsMember cids.new)) }
+        ensures { OnOk result (Adds cids.old (Contains self.now) cids.new) }
     {
         cids.add_all(&self.set)
     }

@@ -9,7 +9,7 @@ ghost use Rattle.palm_model.specs.Log.{Active, cids_of, is_named};
 ghost use Rattle.palm_model.specs.Reason.{AreFilled, reason};
 ghost use Rattle.palm_model.specs.State.{user_of};
 ghost use Rattle.palm_model.specs.Support.{IsSupported, LacksSupport};
-ghost use Rattle.palm_explain.specs.CidSets.{IsJoined, IsMember};
+ghost use Rattle.palm_explain.specs.CidSets.{Adds};
 ghost use Rattle.palm_filter.specs.Heeds.{FitsHeed};
 ghost use Rattle.palm_filter.specs.Shapes.{FitsShape};
 ghost use Rattle.palm_engine.specs.Posted.{IsInForm, active_of, actives_of, is_decision, is_negation, negated};
@@ -97,7 +97,8 @@ impl<F: Filter> Posted<F> {
 
     /// Adds the ids for which a negation holds, and none of other constraints.
     pub(crate) fn add_justification(&self, cids: &mut CidSet) -> Result<(), NoMemory>
-        ensures { OnOk result (IsJoined (IsMember cids.old) (Contains (active_of F.meaning self.now).justification) (IsMember cids.new)) }
+        ensures { OnOk result
+            (Adds cids.old (Contains (active_of F.meaning self.now).justification) cids.new) }
     {
         match self {
             Posted::Negation { justification, .. } => justification.add_to(cids),

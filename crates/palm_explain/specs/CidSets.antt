@@ -39,3 +39,7 @@ pub record IsJoined (before more after : Cid → Type 0) : Type 0 where
   pub sound : (c : Cid) → after c → before c ⊎ more c
   pub first : (c : Cid) → before c → after c
   pub second : (c : Cid) → more c → after c
+
+-- the ids of the one set, those with the property, and no others
+abbrev pub Adds : CidMembers → (Cid → Type 0) → CidMembers → Type 0
+Adds before more after = IsJoined (IsMember before) more (IsMember after)

@@ -5,7 +5,7 @@ ghost use Rattle.palm_base.specs.Order.{Rises};
 ghost use Rattle.palm_base.specs.Tells.{Tells};
 ghost use Rattle.palm_base.specs.declared.terms.Cid.{Cid as CidTerm};
 ghost use Rattle.palm_model.specs.Log.{IsListOf};
-ghost use Rattle.palm_explain.specs.CidSets.{IsDecisionIn, IsJoined, IsMember, IsUserIn};
+ghost use Rattle.palm_explain.specs.CidSets.{Adds, IsDecisionIn, IsMember, IsUserIn};
 ghost use Rattle.palm_explain.specs.Merging.{IsMerged};
 ghost use Rattle.palm_explain.specs.Places.{HasPlace};
 
@@ -49,7 +49,7 @@ impl CidSet {
 
     /// Adds an id, unless it is there.
     pub fn add(&mut self, cid: &Cid) -> Result<(), NoMemory>
-        ensures { OnOk result (IsJoined (IsMember self.old) (λ c. c ≡ cid.now) (IsMember self.new)) }
+        ensures { OnOk result (Adds self.old (λ c. c ≡ cid.now) self.new) }
     {
         match cid {
             Cid::Decide(var) => self.decisions.add(var.0 as usize),
@@ -60,7 +60,7 @@ impl CidSet {
 
     /// Adds each of the ids, unless it is there.
     pub fn add_each(&mut self, cids: &[Cid]) -> Result<(), NoMemory>
-        ensures { OnOk result (IsJoined (IsMember self.old) (Contains cids.now) (IsMember self.new)) }
+        ensures { OnOk result (Adds self.old (Contains cids.now) self.new) }
     {
         for cid in cids {
             self.add(cid)?;
@@ -70,7 +70,7 @@ impl CidSet {
 
     /// Adds each id of another set, unless it is there.
     pub fn add_all(&mut self, other: &CidSet) -> Result<(), NoMemory>
-        ensures { OnOk result (IsJoined (IsMember self.old) (IsMember other.now) (IsMember self.new)) }
+        ensures { OnOk result (Adds self.old (IsMember other.now) self.new) }
     {
         self.decisions.add_all(&other.decisions)?;
         put_each(&mut self.negations, &other.negations)?;
@@ -116,7 +116,8 @@ fn put(cids: &mut Vec<Cid>, cid: &Cid) -> Result<(), NoMemory>
 fn put_each(cids: &mut Vec<Cid>, more: &[Cid]) -> Result<(), NoMemory>
     requires { Rises cids.old.items }
     ensures rises { Rises cids.new.items }
-    ensures only { (c : CidTerm) → Contains cids.new.items c → Contains cids.old.items c ⊎ Contains more.now c }
+    ensures only { (c : CidTerm) → Contains cids.new.items c
+        → Contains cids.old.items c ⊎ Contains more.now c }
     ensures ok { OnOk result (IsMerged cids.old.items more.now cids.new.items) }
 {
     for cid in more {

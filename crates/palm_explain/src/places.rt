@@ -1,5 +1,5 @@
-//! Sets of places of the log, for walks that look at few of many: a word for 64 places that stand together, where one of them is in
-//! the set.
+//! Sets of places, of few of many: a word for 64 places that stand together, where one of them is in the set. A walk down the log
+//! keeps the numbers of removals so, and a set of ids the variables of decisions and the numbers of users.
 ghost use Rattle.std.specs.Prelude.{◌≡◌, ◌⊎◌, ℕ, ◌%◌, ◌<◌, ◌≤◌, true, [], length, nat_le, nat_lt, slice_index_or, slice_set, IfNone, IfSome, OnOk};
 ghost use Rattle.std.specs.Int.{bit_at};
 ghost use Rattle.palm_base.specs.Order.{IsPartedAt};
@@ -202,7 +202,8 @@ fn index_below(words: &[PlaceWord], end: usize) -> usize
 #[inline(always)]
 fn join_bits(words: &mut Vec<PlaceWord>, index: usize, bits: u64)
     requires { index < length words.old.items }
-    ensures { (d : PlaceWordTerm) → words.new.items ≡ slice_set words.old.items index (with_bits (slice_index_or words.old.items index d) bits) }
+    ensures { (d : PlaceWordTerm) → words.new.items
+        ≡ slice_set words.old.items index (with_bits (slice_index_or words.old.items index d) bits) }
 {
     words[index].bits |= bits;
 }
