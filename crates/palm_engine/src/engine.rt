@@ -79,9 +79,7 @@ impl<F: Filter> Engine<F> {
         ensures err { OnErr result (self.new ≡ self.old) }
         ensures valid { IsValid self.new.state }
     {
-        let var = Var(self.filtering.store.variables());
-        self.filtering.log.declare(var, values)?;
-        self.filtering.store.add_variable(values)
+        self.filtering.add_variable(values)
     }
 
     /// Makes the constraint of a user active and pending. Without memory nothing changes.

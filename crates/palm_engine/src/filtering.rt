@@ -1,15 +1,16 @@
 //! The domains, the log and the agenda of an engine, and what changes them together.
-ghost use Rattle.std.specs.Prelude.{◌≡◌, ◌↔◌, ◌⊎◌, ℕ, ◌<◌, List, [], map, length, Contains, None, Some, OnErr, OnOk};
+ghost use Rattle.std.specs.Prelude.{◌≡◌, ◌↔◌, ◌⊎◌, ℕ, ◌<◌, List, [], map, length, Contains, None, Some, OnErr, OnOk, ◌-◌, ◌^◌, ◌≤◌, ◌++◌, ◌∷◌, IfOk};
 ghost use Rattle.palm_base.specs.declared.terms.Cid.{Cid as CidTerm};
 ghost use Rattle.palm_base.specs.declared.terms.Pair.{Pair as PairTerm};
-ghost use Rattle.palm_domain.specs.Rows.{IsPresent, present_of};
+ghost use Rattle.palm_domain.specs.Rows.{Ascends, IsPresent, present_of};
+ghost use Rattle.palm_domain.specs.declared.limits.TheConstants.{MOST_VALUES};
 ghost use Rattle.palm_model.specs.Log.{log_pairs};
 ghost use Rattle.palm_explain.specs.Explanations.{AreSpanned, LacksExactly, restored_vars};
 ghost use Rattle.palm_agenda.specs.Agenda.{IsConnected, IsFormed, IsOver};
 ghost use Rattle.palm_engine.specs.Changed.{HasLost, NotesGain, NotesLoss, PutsBack, TakesOut, TellsLoss, widened_by};
 
 use palm_agenda::{Agenda, Loss};
-use palm_base::{Cid, NoMemory, Pair, Var};
+use palm_base::{Cid, NoMemory, Pair, Value, Var};
 use palm_domain::DomainStore;
 use palm_explain::{ExplainStore, Restored, Span};
 use std::alloc::Global;
@@ -98,6 +99,21 @@ impl Filtering {
             empty: None,
             checks: 0,
         }
+    }
+
+    /// Appends a variable with these values, of which the log is told. Without memory nothing changes.
+    pub(crate) fn add_variable(&mut self, values: &[Value]) -> Result<Var, NoMemory>
+        requires ascend { Ascends values.now }
+        requires filled { 0 < length values.now }
+        requires small { length values.now ≤ MOST_VALUES }
+        requires few { length self.old.store < 2 ^ 32 - 1 }
+        ensures var { IfOk result (λ x. x ≡ length self.old.store) }
+        ensures ok { OnOk result (self.new ≡ record self.old { store = self.old.store ++ record { initial = values.now; present = values.now } ∷ [] }) }
+        ensures err { OnErr result (self.new ≡ self.old) }
+    {
+        let var = Var(self.store.variables());
+        self.log.declare(var, values)?;
+        self.store.add_variable(values)
     }
 
     /// Takes a present value out by this constraint and for the removals that the spans stand for. Without memory nothing changes.

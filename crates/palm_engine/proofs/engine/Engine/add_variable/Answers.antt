@@ -1,4 +1,4 @@
-use Rattle.std.proofs.Common.{◌≡◌, ◌∙◌, ℤ, List, [], ◌∷◌, ◌++◌, sym, ap, subst}
+use Rattle.std.proofs.Common.{◌≡◌, ◌∙◌, ℤ, List, [], ◌∷◌, ◌++◌, refl, sym, ap, subst}
 use Rattle.std.proofs.lemmas.List.{map-append}
 use Rattle.palm_model.specs.Domains.{Ascends}
 use Rattle.palm_domain.specs.Rows.{Row, initial_of}
@@ -11,29 +11,33 @@ use Rattle.palm_engine.proofs.Keeping.{declared_engine}
 use Rattle.palm_engine.proofs.cited.Results.{on_either, on_ok}
 use Rattle.palm_engine.proofs.engine.Engine.add_variable.Goals as goal
 
+-- the domains with one more
+with_values : Filtering → List ℤ → List Row
+with_values f values = let row : Row = record { initial = values; present = values } in f.store ++ row ∷ []
+
 pub invariant_of-self : goal.invariant_of-self
 invariant_of-self g c =
     let f = c.self.inside.filtering in
     let active = actives_of g.F.Filter.meaning c.self.inside.posted.items in
-    let store = c.add_variable.new.self in
-    on_either c.add_variable.result _ _ (IsEngine (record f { store = store }) active) c.add_variable.ensures.ok c.add_variable.ensures.err
-    (λ e. declared_engine f store c.args.values.now active c.requires.ascend c.requires.filled e c.self.invariant)
-    (λ e. subst (λ rows. IsEngine (record f { store = rows }) active) (sym e) c.self.invariant)
+    on_either c.add_variable.result _ _ (IsEngine c.add_variable.new.self active) c.add_variable.ensures.ok c.add_variable.ensures.err
+    (λ e. subst (λ (h : Filtering). IsEngine h active) (sym e) (declared_engine f (with_values f c.args.values.now) c.args.values.now active c.requires.ascend c.requires.filled refl c.self.invariant))
+    (λ e. subst (λ (h : Filtering). IsEngine h active) (sym e) c.self.invariant)
 
 pub returns-clause-valid : goal.returns-clause-valid
 returns-clause-valid g c = (invariant_of-self g c).valid
 
 -- one more row declares one more variable
-declares : (f : Filtering) (store : List Row) (values : List ℤ) (active : List Active) → Ascends values → store ≡ f.store ++ record { initial = values; present = values } ∷ []
-    → Declares (state_of f active) values (state_of (record f { store = store }) active)
-declares f store values active ascends e =
+declares : (f : Filtering) (values : List ℤ) (active : List Active) → Ascends values → Declares (state_of f active) values (state_of (record f { store = with_values f values }) active)
+declares f values active ascends =
     let row : Row = record { initial = values; present = values } in
-    let initial : initial_of store ≡ initial_of f.store ++ values ∷ [] = ap initial_of e ∙ map-append (λ (r : Row). r.initial) f.store (row ∷ []) in
+    let initial : initial_of (with_values f values) ≡ initial_of f.store ++ values ∷ [] = map-append (λ (r : Row). r.initial) f.store (row ∷ []) in
     record { ascend = ascends; after = (λ i. record { initial = initial i; active = active; log = f.log.log; pending = f.agenda.pending }) }
 
 pub returns-clause-ok : goal.returns-clause-ok
 returns-clause-ok g c =
+    let f = c.self.inside.filtering in
+    let active = actives_of g.F.Filter.meaning c.self.inside.posted.items in
     rw (← c.self.view_is)
     (on_ok c.add_variable.result _ _
-    (λ e. declares c.self.inside.filtering c.add_variable.new.self c.args.values.now (actives_of g.F.Filter.meaning c.self.inside.posted.items) c.requires.ascend e)
+    (λ e. subst (λ (h : Filtering). Declares (state_of f active) c.args.values.now (state_of h active)) (sym e) (declares f c.args.values.now active c.requires.ascend))
     c.add_variable.ensures.ok)
