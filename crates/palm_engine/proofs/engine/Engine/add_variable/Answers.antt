@@ -12,7 +12,7 @@ use Rattle.palm_engine.proofs.cited.Results.{on_either, on_ok}
 use Rattle.palm_engine.proofs.engine.Engine.add_variable.Goals as goal
 
 -- the domains with one more
-with_values : Filtering → List ℤ → List Row
+abbrev with_values : Filtering → List ℤ → List Row
 with_values f values = let row : Row = record { initial = values; present = values } in f.store ++ row ∷ []
 
 pub invariant_of-self : goal.invariant_of-self
