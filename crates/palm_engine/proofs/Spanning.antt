@@ -55,9 +55,10 @@ slice_whole vs rise f n le u v w mu mw low high mv =
     (mv.0 - f, omega (arith, within, long), slice_at vs f n (mv.0 - f) v within ∙ ap (λ k. get_or vs k v) at ∙ mv.2)
   where
     not_less : (a b : ℕ) → (a < b → ⊥) → b ≤ a
-    not_less a b refuted = elim (cases_lt a b) [ | inl lt ↦ absurd (refuted lt) | inr ge ↦ ge ]
+    not_less a b refuted = elim (cases_lt a b) [ inl lt ↦ absurd (refuted lt) | inr ge ↦ ge ]
+
     less_or : (a b : ℕ) → (b ≤ a → ⊥) → a < b
-    less_or a b refuted = elim (cases_lt a b) [ | inl lt ↦ lt | inr ge ↦ absurd (refuted ge) ]
+    less_or a b refuted = elim (cases_lt a b) [ inl lt ↦ lt | inr ge ↦ absurd (refuted ge) ]
 
 taken : (vs : List ℤ) (n : ℕ) → take (min n (length vs)) vs ≡ take n vs
 taken vs n = elim (cases_lt (length vs) n) [
@@ -94,11 +95,12 @@ run_spans pairs x values low high run first last =
     record {
       ascends = rise;
       each = λ v. (
-          (λ m.
-              let above = get_or-rises values rise 0 m.0 low v (omega arith) m.1 in
-              let below = get_or-rises values rise m.0 (length values - 1) v high (omega (arith, m.1)) (omega (arith, some)) in
-              (omega (arith, ints, above, lowest, m.2), omega (arith, ints, below, highest, m.2), run.each v m)),
-          (λ r. run.whole low v high (0, some, lowest) (length values - 1, omega (arith, some), highest) r.0 r.1 r.2));
+        (λ m.
+            let above = get_or-rises values rise 0 m.0 low v (omega arith) m.1 in
+            let below = get_or-rises values rise m.0 (length values - 1) v high (omega (arith, m.1)) (omega (arith, some)) in
+            (omega (arith, ints, above, lowest, m.2), omega (arith, ints, below, highest, m.2), run.each v m)),
+        (λ r. run.whole low v high (0, some, lowest) (length values - 1, omega (arith, some), highest) r.0 r.1 r.2),
+      );
       count = refl;
     }
 

@@ -1,9 +1,10 @@
 -- What a removal and a withdrawal do to what an engine keeps.
-use Rattle.std.specs.Prelude.{◌≡◌, ℕ, ◌<◌, ◌↔◌, ◌⊎◌, List, [], ◌∷◌, ◌++◌, map, length, Contains, Option, Some, None, slice_set}
+use Rattle.std.specs.Prelude.{◌≡◌, ℕ, ◌<◌, ◌↔◌, ◌⊎◌, List, [], ◌∷◌, ◌++◌, map, length, Contains, Option, Some, None, slice_set, ℤ, ◌-◌, ◌^◌, ◌≤◌}
 use Rattle.palm_base.specs.declared.terms.Pair.{Pair}
 use Rattle.palm_base.specs.declared.terms.Cid.{Cid}
 use Rattle.palm_base.specs.Tells.{Tells}
-use Rattle.palm_domain.specs.Rows.{LosesPair, initial_of, present_of, present_values, values_without}
+use Rattle.palm_domain.specs.Rows.{Ascends, LosesPair, Row, initial_of, present_of, present_values, values_without}
+use Rattle.palm_domain.specs.declared.limits.TheConstants.{MOST_VALUES}
 use Rattle.palm_model.specs.Domains.{Domains, values_of}
 use Rattle.palm_model.specs.Log.{Loses, log_pairs}
 use Rattle.palm_model.specs.State.{without_cid}
@@ -15,6 +16,17 @@ use Rattle.palm_filter.specs.Shapes.{HasTwo}
 use Rattle.palm_agenda.specs.declared.loss.Loss.{Loss}
 use Rattle.palm_agenda.specs.Agenda.{Connected, IsFormed, IsOver, mark_others, mark_own, without_connected}
 use Rattle.palm_engine.specs.declared.filtering.Filtering.{Filtering}
+
+-- there may be one more variable, with these values
+pub record HasRoomFor (rows : List Row) (values : List ℤ) : Type 0 where
+  pub ascend : Ascends values
+  pub filled : 0 < length values
+  pub small : length values ≤ MOST_VALUES
+  pub few : length rows < 2 ^ 32 - 1
+
+-- the rows with that of one more variable, of which each of the values is declared and present
+abbrev pub with_variable : List Row → List ℤ → List Row
+with_variable rows values = rows ++ record { initial = values; present = values } ∷ []
 
 -- the empty variable after a value of x was taken out: x where it has no value left
 pub record NotesLoss (before after : Option ℕ) (d : Domains) (x : ℕ) : Type 0 where

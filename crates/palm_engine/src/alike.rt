@@ -149,14 +149,7 @@ fn take_others_out<F: Filter, L: Ledger>(
 {
     let mut next = Some(filtering.store.least(var));
     while let Some(value) = next {
-        take_out_unless(
-            filtering,
-            constraint,
-            Pair { var, value },
-            but,
-            room,
-            steps,
-        )?;
+        take_out_unless(filtering, constraint, Pair { var, value }, but, room, steps)?;
         next = filtering.store.next_after(var, value);
     }
     Ok(())

@@ -158,13 +158,7 @@ impl<F: Filter> Engine<F> {
         let mut room = ReasonRoom::new(*self.posted.allocator());
         self.revisions = 0;
         while let Some(taken) = take_next(&mut self.filtering, order, limit, self.revisions) {
-            let removed = run_revision(
-                &mut self.filtering,
-                &self.posted,
-                &taken,
-                &mut room,
-                steps,
-            );
+            let removed = run_revision(&mut self.filtering, &self.posted, &taken, &mut room, steps);
             self.revisions = self.revisions.saturating_add(1);
             tell(order, &taken.cid, removed?);
         }

@@ -1,13 +1,12 @@
 //! The domains, the log and the agenda of an engine, and what changes them together.
-ghost use Rattle.std.specs.Prelude.{◌≡◌, ◌↔◌, ◌⊎◌, ℕ, ◌<◌, List, [], map, length, Contains, None, Some, OnErr, OnOk, ◌-◌, ◌^◌, ◌≤◌, ◌++◌, ◌∷◌, IfOk};
+ghost use Rattle.std.specs.Prelude.{◌≡◌, ◌↔◌, ◌⊎◌, ℕ, ◌<◌, List, [], map, length, Contains, None, Some, OnErr, OnOk, IfOk};
 ghost use Rattle.palm_base.specs.declared.terms.Cid.{Cid as CidTerm};
 ghost use Rattle.palm_base.specs.declared.terms.Pair.{Pair as PairTerm};
-ghost use Rattle.palm_domain.specs.Rows.{Ascends, IsPresent, present_of};
-ghost use Rattle.palm_domain.specs.declared.limits.TheConstants.{MOST_VALUES};
+ghost use Rattle.palm_domain.specs.Rows.{IsPresent, present_of};
 ghost use Rattle.palm_model.specs.Log.{log_pairs};
 ghost use Rattle.palm_explain.specs.Explanations.{AreSpanned, LacksExactly, restored_vars};
 ghost use Rattle.palm_agenda.specs.Agenda.{IsConnected, IsFormed, IsOver};
-ghost use Rattle.palm_engine.specs.Changed.{HasLost, NotesGain, NotesLoss, PutsBack, TakesOut, TellsLoss, widened_by};
+ghost use Rattle.palm_engine.specs.Changed.{HasLost, HasRoomFor, NotesGain, NotesLoss, PutsBack, TakesOut, TellsLoss, widened_by, with_variable};
 
 use palm_agenda::{Agenda, Loss};
 use palm_base::{Cid, NoMemory, Pair, Value, Var};
@@ -103,12 +102,9 @@ impl Filtering {
 
     /// Appends a variable with these values, of which the log is told. Without memory nothing changes.
     pub(crate) fn add_variable(&mut self, values: &[Value]) -> Result<Var, NoMemory>
-        requires ascend { Ascends values.now }
-        requires filled { 0 < length values.now }
-        requires small { length values.now ≤ MOST_VALUES }
-        requires few { length self.old.store < 2 ^ 32 - 1 }
+        requires { HasRoomFor self.old.store values.now }
         ensures var { IfOk result (λ x. x ≡ length self.old.store) }
-        ensures ok { OnOk result (self.new ≡ record self.old { store = self.old.store ++ record { initial = values.now; present = values.now } ∷ [] }) }
+        ensures ok { OnOk result (self.new ≡ record self.old { store = with_variable self.old.store values.now }) }
         ensures err { OnErr result (self.new ≡ self.old) }
     {
         let var = Var(self.store.variables());
@@ -126,7 +122,8 @@ impl Filtering {
         requires removed { LacksExactly self.old.store (log_pairs self.old.log.log) }
         requires present { IsPresent self.old.store pair.var pair.value }
         requires spanned { (reasons : List PairTerm) × AreSpanned (log_pairs self.old.log.log) spans.now reasons }
-        ensures ok { (reasons : List PairTerm) → AreSpanned (log_pairs self.old.log.log) spans.now reasons → OnOk result (TakesOut self.old pair by reasons self.new) }
+        ensures ok { (reasons : List PairTerm) → AreSpanned (log_pairs self.old.log.log) spans.now reasons
+            → OnOk result (TakesOut self.old pair by reasons self.new) }
         ensures err { OnErr result (self.new ≡ self.old) }
     {
         let Pair { var, value } = pair;

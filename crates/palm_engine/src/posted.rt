@@ -13,7 +13,7 @@ ghost use Rattle.palm_explain.specs.CidSets.{Adds};
 ghost use Rattle.palm_filter.specs.Heeds.{FitsHeed};
 ghost use Rattle.palm_filter.specs.Shapes.{FitsShape};
 ghost use Rattle.palm_engine.specs.Posted.{IsInForm, active_of, actives_of, is_decision, is_negation, negated};
-ghost use Rattle.palm_engine.specs.Reasons.{IsToldBy};
+ghost use Rattle.palm_engine.specs.Reasons.{Goes, IsToldBy, reason_in};
 ghost use Rattle.palm_engine.specs.Work.{asks_of};
 
 use crate::justification::Justification;
@@ -194,10 +194,9 @@ impl<F: Filter> Posted<F> {
         out: &mut Vec<Span>,
     ) -> Result<bool, NoMemory>
         requires formed { IsInForm (length store.now) (active_of F.meaning self.now) }
-        requires present { Has (present_of store.now) pair.now.var pair.now.value }
-        requires unsupported { LacksSupport (present_of store.now) (active_of F.meaning self.now).con pair.now.var pair.now.value }
-        requires filled { AreFilled (present_of store.now) (scope (active_of F.meaning self.now).con) }
-        ensures { IfOk result (λ told. told ≡ true → IsToldBy store.now (reason (initial_of store.now) (present_of store.now) (active_of F.meaning self.now).con pair.now.var pair.now.value) out.new.items) }
+        requires goes { Goes store.now (active_of F.meaning self.now).con pair.now }
+        ensures { IfOk result (λ told. told ≡ true
+            → IsToldBy store.now (reason_in store.now (active_of F.meaning self.now).con pair.now) out.new.items) }
     {
         match self {
             Posted::Decision(_) | Posted::Negation { .. } => {

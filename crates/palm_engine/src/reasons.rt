@@ -1,16 +1,13 @@
 //! The reasons of a removal: as spans of values where the constraint's filter tells a rule of them, and else as a list of pairs.
 ghost use Rattle.std.specs.Prelude.{◌≡◌, ◌++◌, ◌≤◌, List, true, length, IfOk, OnOk};
 ghost use Rattle.palm_base.specs.declared.terms.Pair.{Pair as PairTerm};
-ghost use Rattle.palm_domain.specs.Rows.{Ascends, declared_values, initial_of, present_of};
+ghost use Rattle.palm_domain.specs.Rows.{Ascends, declared_values, initial_of};
 ghost use Rattle.palm_domain.specs.declared.limits.TheConstants.{MOST_VALUES};
 ghost use Rattle.palm_explain.specs.Explanations.{AreSpanned};
 ghost use Rattle.palm_filter.specs.Rules.{listed_pairs};
-ghost use Rattle.palm_model.specs.Constraint.{IsWellFormed, scope};
-ghost use Rattle.palm_model.specs.Domains.{Has};
-ghost use Rattle.palm_model.specs.Reason.{AreFilled, reason};
+ghost use Rattle.palm_model.specs.Constraint.{IsWellFormed};
 ghost use Rattle.palm_model.specs.Removed.{pairs_of};
-ghost use Rattle.palm_model.specs.Support.{LacksSupport};
-ghost use Rattle.palm_engine.specs.Reasons.{IsRun, IsToldBy, values_in};
+ghost use Rattle.palm_engine.specs.Reasons.{Goes, IsRun, IsToldBy, reason_in, values_in};
 
 use palm_base::{NoMemory, Pair, Value, Var};
 use palm_domain::DomainStore;
@@ -96,13 +93,11 @@ pub(crate) fn spans_by_rule<F: Filter>(
     out: &mut Vec<Span>,
 ) -> Result<bool, NoMemory>
     requires formed { IsWellFormed (length store.now) (F.meaning filter.now) }
-    requires present { Has (present_of store.now) pair.now.var pair.now.value }
-    requires unsupported { LacksSupport (present_of store.now) (F.meaning filter.now) pair.now.var pair.now.value }
-    requires filled { AreFilled (present_of store.now) (scope (F.meaning filter.now)) }
-    ensures { IfOk result (λ told. told ≡ true → IsToldBy store.now (reason (initial_of store.now) (present_of store.now) (F.meaning filter.now) pair.now.var pair.now.value) out.new.items) }
+    requires goes { Goes store.now (F.meaning filter.now) pair.now }
+    ensures { IfOk result (λ told. told ≡ true → IsToldBy store.now (reason_in store.now (F.meaning filter.now) pair.now) out.new.items) }
 {
     // The store tells here what it holds of its values: a rule is known of the reasons where they ascend.
-    let _ = store.variables();
+    prove!(store.variables() > 0);
     let Some(known) = filter.rule(store, pair, intervals)? else {
         return Ok(false);
     };

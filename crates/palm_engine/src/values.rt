@@ -58,11 +58,7 @@ pub(crate) fn take_out<F: Filter>(
         );
     }
     constraint.reason(&filtering.store, Pair { var, value }, &mut room.pairs)?;
-    filtering.remove(
-        Pair { var, value },
-        constraint.cid(),
-        room.pairs.as_slice(),
-    )
+    filtering.remove(Pair { var, value }, constraint.cid(), room.pairs.as_slice())
 }
 
 /// Asks for a present value of the constraint's variable, and takes it out where it lacks support. Without memory

@@ -10,23 +10,29 @@ use Rattle.palm_engine.proofs.values.take_out.Goals as goal
 pub tells_spans-requires-clause-formed : goal.tells_spans-requires-clause-formed
 tells_spans-requires-clause-formed g c = let r = c.requires.revising in owner_in_form c.args.filtering.now r.0 (active_of g.F.Filter.meaning c.args.constraint.now) r.1
 
-pub tells_spans-requires-clause-filled : goal.tells_spans-requires-clause-filled
-tells_spans-requires-clause-filled g c = let r = c.requires.revising in owner_filled c.args.filtering.now r.0 (active_of g.F.Filter.meaning c.args.constraint.now) r.1 c.requires.filled
+pub tells_spans-requires-clause-goes : goal.tells_spans-requires-clause-goes
+tells_spans-requires-clause-goes g c = let r = c.requires.revising in record {
+  present = c.requires.present;
+  unsupported = c.requires.lacking;
+  filled = owner_filled c.args.filtering.now r.0 (active_of g.F.Filter.meaning c.args.constraint.now) r.1 c.requires.filled;
+}
 
 pub remove_for_spans-requires-clause-spanned : goal.remove_for_spans-requires-clause-spanned
 remove_for_spans-requires-clause-spanned g c =
     let r = c.requires.revising in
     let f = c.args.filtering.now in
-    let owner = active_of g.F.Filter.meaning c.args.constraint.now in
-    (stated f owner c.args.pair, reasons_told f r.0 owner c.args.pair r.1 c.requires.filled c.requires.present c.requires.lacking c.as_slice.result.now c.tells_spans.new.out.items
-    c.as_slice.ensures.value (c.in_ok-tells_spans.ensures c.if-branch.true))
+    let owner = active_of g.F.Filter.meaning c.args.constraint.now in (
+      stated f owner c.args.pair,
+      reasons_told f r.0 owner c.args.pair r.1 c.requires.filled c.requires.present c.requires.lacking c.as_slice.result.now c.tells_spans.new.out.items
+          c.as_slice.ensures.value (c.in_ok-tells_spans.ensures c.if-branch.true),
+    )
 
 pub returns-then-branch-clause-walked : goal.returns-then-branch-clause-walked
 returns-then-branch-clause-walked g c = λ active r.
     let f = c.args.filtering.now in
     let owner = active_of g.F.Filter.meaning c.args.constraint.now in
     let told = reasons_told f active owner c.args.pair r c.requires.filled c.requires.present c.requires.lacking c.as_slice.result.now c.tells_spans.new.out.items
-        c.as_slice.ensures.value (c.in_ok-tells_spans.ensures c.if-branch.true) in
+    c.as_slice.ensures.value (c.in_ok-tells_spans.ensures c.if-branch.true) in
     on_ok c.remove_for_spans.result (λ takes. taken_walked active owner c.args.pair f c.remove_for_spans.new.self c.cid.result (stated f owner c.args.pair) r
     c.requires.filled c.requires.present c.requires.lacking c.requires.over c.cid.ensures refl takes) (c.remove_for_spans.ensures.ok (stated f owner c.args.pair) told)
 
@@ -35,7 +41,7 @@ returns-then-branch-clause-revising g c = λ active r.
     let f = c.args.filtering.now in
     let owner = active_of g.F.Filter.meaning c.args.constraint.now in
     let told = reasons_told f active owner c.args.pair r c.requires.filled c.requires.present c.requires.lacking c.as_slice.result.now c.tells_spans.new.out.items
-        c.as_slice.ensures.value (c.in_ok-tells_spans.ensures c.if-branch.true) in
+    c.as_slice.ensures.value (c.in_ok-tells_spans.ensures c.if-branch.true) in
     on_either c.remove_for_spans.result
     (λ takes. taken_revising active owner c.args.pair f c.remove_for_spans.new.self c.cid.result (stated f owner c.args.pair) r
     c.requires.filled c.requires.present c.requires.lacking c.requires.over c.cid.ensures refl takes)
@@ -48,7 +54,7 @@ returns-then-branch-clause-gone g c =
     let f = c.args.filtering.now in
     let owner = active_of g.F.Filter.meaning c.args.constraint.now in
     let told = reasons_told f r.0 owner c.args.pair r.1 c.requires.filled c.requires.present c.requires.lacking c.as_slice.result.now c.tells_spans.new.out.items
-        c.as_slice.ensures.value (c.in_ok-tells_spans.ensures c.if-branch.true) in
+    c.as_slice.ensures.value (c.in_ok-tells_spans.ensures c.if-branch.true) in
     on_ok c.remove_for_spans.result (λ takes. takes.loses) (c.remove_for_spans.ensures.ok (stated f owner c.args.pair) told)
 
 pub returns-then-branch-clause-checks : goal.returns-then-branch-clause-checks
@@ -57,7 +63,7 @@ returns-then-branch-clause-checks g c =
     let f = c.args.filtering.now in
     let owner = active_of g.F.Filter.meaning c.args.constraint.now in
     let told = reasons_told f r.0 owner c.args.pair r.1 c.requires.filled c.requires.present c.requires.lacking c.as_slice.result.now c.tells_spans.new.out.items
-        c.as_slice.ensures.value (c.in_ok-tells_spans.ensures c.if-branch.true) in
+    c.as_slice.ensures.value (c.in_ok-tells_spans.ensures c.if-branch.true) in
     on_either c.remove_for_spans.result (λ takes. takes.checks) (λ same. ap (λ (h : Filtering). h.checks) same) (c.remove_for_spans.ensures.ok (stated f owner c.args.pair) told) c.remove_for_spans.ensures.err
 
 pub reason-requires-clause-formed : goal.reason-requires-clause-formed
