@@ -30,14 +30,7 @@ module _ (initial present : Domains) (vars : List ℕ) (x : ℕ) (v : ℤ) (y : 
     | inr f ↦ sym f
   ]
 
-  -- nor is a row blocked whose entries are not all declared
-  pub undeclared_blocks_none : are_there initial (row_pairs vars row) ≡ false → false ≡ is_blocked_at initial present vars x v y w row
-  undeclared_blocks_none none = elim (cases_Bool (is_blocked_at initial present vars x v y w row)) [
-    | inl t ↦ absurd (both_ways (are_there initial (row_pairs vars row)) none (blocked_parts initial present vars x v y w row t).declared)
-    | inr f ↦ sym f
-  ]
-
-  -- else the first entry that is not present does
+  -- the first entry that is not present blocks it, where all are declared
   pub first_blocks : (b : Bool) → is_among (row_pairs vars row) x v ≡ true → are_there initial (row_pairs vars row) ≡ true → b ≡ is_among (first_missing present (row_pairs vars row)) y w → b ≡ is_blocked_at initial present vars x v y w row
   first_blocks b has declared is =
       let ps = row_pairs vars row in

@@ -28,8 +28,7 @@ ascends_far (v ∷ vs) up (suc i) (suc j) d before lt = ascends_far vs up.1 i j 
 ascends_joined : (us ws : List ℤ) (v : ℤ) → Ascends us → All (λ u. u <ℤ v) us → All (λ w. v <ℤ w) ws → Ascends ws → Ascends (us ++ v ∷ ws)
 ascends_joined [] ws v up below above after = (above, after)
 ascends_joined (u ∷ us) ws v up below above after =
-    let less = All-contains (λ z. z <ℤ v) (u ∷ us) u below (member_here u us) in
-    (
+    let less = All-contains (λ z. z <ℤ v) (u ∷ us) u below (member_here u us) in (
       all_members (λ z. u <ℤ z) (us ++ v ∷ ws) (λ z m. elim (Contains-append_cases us (v ∷ ws) z m) [
         | inl k ↦ All-contains (λ y. u <ℤ y) us z up.0 k
         | inr k ↦ elim (member_cases v ws z k) [

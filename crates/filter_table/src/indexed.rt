@@ -1,12 +1,12 @@
 //! A table with an index of each of its columns.
-ghost use Rattle.std.specs.Prelude.{◌≡◌, ◌++◌, [], ◌∷◌, ℕ, ◌<◌, length, true, All, Contains, IfOk, IfSome, OnOk, MatchOption, Some, slice_get};
+ghost use Rattle.std.specs.Prelude.{◌≡◌, ◌++◌, ℕ, ◌<◌, length, true, All, Contains, IfOk, IfSome, OnOk, MatchOption, Some, slice_get};
 ghost use Rattle.std.specs.List.{list_any};
-ghost use Rattle.filter_table.specs.Table.{AreBesides, AreColumns, IsIndexed, column_values, is_support_row, is_blocker, row_at, table_of};
+ghost use Rattle.filter_table.specs.Table.{AreBesides, AreColumns, IsIndexed, column_values, is_support_row, row_at, table_of};
 ghost use Rattle.palm_domain.specs.Rows.{initial_of, present_of};
 ghost use Rattle.palm_model.specs.Constraint.{Distinct};
 ghost use Rattle.palm_model.specs.declared.constraint.Con.{Con};
 ghost use Rattle.palm_model.specs.Domains.{AllAscend, Has, is_among};
-ghost use Rattle.palm_model.specs.Table.{blocking_values, is_blocked_at, row_pairs, table_reason};
+ghost use Rattle.palm_model.specs.Table.{blocking_values, row_pairs, table_reason};
 ghost use Rattle.palm_model.specs.Removed.{others, pairs_of};
 
 use crate::beside::{Beside, near};
@@ -198,7 +198,8 @@ impl IndexedTable {
         false
     }
 
-    /// Appends every removed pair of the variable, in the column `end`, that blocks a row with the value of `pair`.
+    /// Appends every removed pair of the variable, in the column `end`, that blocks a row with the value of `pair`. It looks
+    /// at no other rows.
     fn push_blocking(
         &self,
         store: &DomainStore,
