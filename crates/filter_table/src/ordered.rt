@@ -32,7 +32,8 @@ fn has_value_at(pairs: &[Pair], place: usize, value: &Value) -> bool
 /// Puts the pair among those from the place on, which are of its variable and whose values ascend, unless it is there.
 pub(crate) fn put_pair(out: &mut Reasons, from: usize, pair: Pair) -> Result<(), NoMemory>
     requires { from ≤ length out.old.items }
-    ensures { (before : List Pair) (values : List ℤ) → from ≡ length before → out.old.items ≡ before ++ pairs_of pair.var values → Ascends values
+    ensures { (before : List Pair) (values : List ℤ) → from ≡ length before
+        → out.old.items ≡ before ++ pairs_of pair.var values → Ascends values
         → OnOk result (out.new.items ≡ before ++ pairs_of pair.var (with_value values pair.value)) }
 {
     let place = from + count_below(&out[from..], &pair.value);
