@@ -1,22 +1,26 @@
 -- Support by an element of a list, and its reasons as they are written.
-use Rattle.std.proofs.Common.{◌≡◌, ℕ, ℤ, pos, ◌+◌, ◌<◌, ◌≤◌, ◌<ℤ◌, List, [], ◌∷◌, ◌++◌, length, Contains, slice_get, Some, ◌⊎◌, inl, inr, refl, sym, ap, ◌∙◌, subst, arith, get_or, append-nil}
+use Rattle.std.proofs.Common.{◌≡◌, ℕ, ℤ, pos, ◌+◌, ◌<◌, ◌≤◌, ◌<ℤ◌, Bool, true, false, List, [], ◌∷◌, ◌++◌, length, map, take, filter, Contains, slice_get, Some, ◌⊎◌, inl, inr, refl, sym, ap, ◌∙◌, subst, arith, get_or, append-nil}
 use Rattle.std.specs.List.{AllWithin}
-use Rattle.std.proofs.lemmas.List.{get_or_default}
+use Rattle.std.proofs.lemmas.Int.{ints}
+use Rattle.std.proofs.lemmas.List.{get_or-map, get_or_default, length-map}
 use Rattle.std.proofs.lemmas.List.Elements.{All-nil, All-contains, AllWithin-more}
 use Rattle.std.proofs.lemmas.Option.{same_Some, slice_get_within}
-use Rattle.palm_base.proofs.cited.Members.{member_here, member_there, member_single, member_same, filter_member, member_filter}
+use Rattle.palm_base.proofs.cited.Members.{all_members, filter_member, member_filter, member_here, member_map, member_same, member_single, member_there, member_unmap}
+use Rattle.palm_base.specs.Tells.{Tells}
 use Rattle.palm_base.specs.declared.terms.Pair.{Pair}
 use Rattle.palm_model.specs.Domains.{Domains, Has, Ascends, values_of}
 use Rattle.palm_model.specs.Constraint.{scope, Distinct, IsWellFormed}
 use Rattle.palm_model.specs.Support.{HasSupport, IsSupported, LacksSupport}
-use Rattle.palm_model.specs.Element.{entry_at, is_entry, outcomes_at, element_reason}
-use Rattle.palm_model.specs.Removed.{pairs_of}
+use Rattle.palm_model.specs.Element.{entry_at, indices_of, is_entry, outcomes_at, element_reason}
+use Rattle.palm_model.specs.Removed.{is_listed, pairs_of}
 use Rattle.palm_model.specs.Reason.{reason}
 use Rattle.palm_model.specs.declared.constraint.Con.{Con}
 use Rattle.palm_model.specs.declared.limits.TheConstants.{MOST_ROWS}
 use Rattle.palm_model.specs.declared.part.Part.{Part}
 use Rattle.palm_model.specs.declared.part.Part.TheVariants.{Element as ElementPart}
 use Rattle.palm_model.proofs.cited.Ascending.{ascends_filter, ascending_same}
+use Rattle.palm_filter.proofs.cited.Listed.{listed_told}
+use Rattle.palm_model.proofs.cited.Reasons.{listed_member, member_listed, pairs_more, pairs_same}
 use Rattle.palm_model.proofs.cited.Supports.{supported_by_part, lacking_by_part, two_first, two_second, support_by_two}
 use Rattle.palm_reason.proofs.cited.ElementReason.{place_of, entry_of, entry_test, test_entry}
 use Rattle.palm_reason.proofs.cited.TwoVariables.{of_two, turned}
@@ -152,12 +156,77 @@ module _ (entries : List ℤ) (w : ℤ) (places : List ℕ) (stands : (k : ℕ) 
   place_few i lt few = let g = slice_get_within entries (get_or places i 0) w (place_at i lt) in omega arith
 
 module _ (d : Domains) (c : ElementRule) (w : ℤ) (places : List ℕ) (i : ℕ) where
-  pub place_missed : (k : ℤ) → i < length places → k ≡ pos (get_or places i 0 + 1) → (Has d c.index k → ⊥) → AllWithin (λ n. Has d c.index (pos (n + 1)) → ⊥) places 0 i → AllWithin (λ n. Has d c.index (pos (n + 1)) → ⊥) places 0 (i + 1)
-  place_missed k lt e missing before =
+  pub place_missed : (p : Pair) → i < length places → p.var ≡ c.index → p.value ≡ pos (get_or places i 0 + 1) → (Has d p.var p.value → ⊥) → AllWithin (λ n. Has d c.index (pos (n + 1)) → ⊥) places 0 i → AllWithin (λ n. Has d c.index (pos (n + 1)) → ⊥) places 0 (i + 1)
+  place_missed p lt var value missing before =
       AllWithin-more (λ n. Has d c.index (pos (n + 1)) → ⊥) places 0 i before
-      (λ z. subst (λ n. Has d c.index (pos (n + 1)) → ⊥) (get_or_default places i 0 z lt) (subst (λ u. Has d c.index u → ⊥) e missing))
+      (λ z. subst (λ n. Has d c.index (pos (n + 1)) → ⊥) (get_or_default places i 0 z lt) (subst (λ u. Has d c.index u → ⊥) value (subst (λ y. Has d y p.value → ⊥) var missing)))
 
   pub all_missed : ((k : ℕ) → slice_get c.entries k ≡ Some w → Contains places k) → length places ≤ i → AllWithin (λ n. Has d c.index (pos (n + 1)) → ⊥) places 0 i → IsEntryReached d c w → ⊥
   all_missed every le before r =
       let m = every r.place r.stands in
       subst (λ n. Has d c.index (pos (n + 1)) → ⊥) m.2 (before m.0 r.place (omega arith) (omega (arith, m.1, le))) r.index
+
+-- ---- the declared indices at the places of an outcome
+
+-- the indices of these places
+abbrev pub indices_at : List ℕ → List ℤ
+indices_at places = map (λ n. pos (n + 1)) places
+
+pub many_indices : (places : List ℕ) (i : ℕ) → length places ≤ i → length (indices_at places) ≤ i
+many_indices places i le = subst (λ n. n ≤ i) (sym (length-map places (λ (n : ℕ). pos (n + 1)))) le
+
+indices_ascend : (places : List ℕ) → Ascends (map pos places) → Ascends (indices_at places)
+indices_ascend [] up = tt
+indices_ascend (n ∷ places) up = (
+  all_members (λ w. pos (n + 1) <ℤ w) (indices_at places) (λ w m.
+      let r = member_unmap (λ (k : ℕ). pos (k + 1)) places w m in
+      let above = All-contains (λ u. pos n <ℤ u) (map pos places) (pos r.0) up.0 (member_map pos places r.0 r.1) in
+      subst (λ u. pos (n + 1) <ℤ u) r.2 (omega (arith, ints, above))),
+  indices_ascend places up.1,
+)
+
+module _ (initial : Domains) (x : ℕ) (entries : List ℤ) (w : ℤ) (places : List ℕ) (stands : (k : ℕ) → Contains places k → slice_get entries k ≡ Some w) (every : (k : ℕ) → slice_get entries k ≡ Some w → Contains places k) where
+  abbrev declared_there : List ℤ
+  declared_there = filter (is_listed (values_of initial x)) (indices_at places)
+
+  there_index : (k : ℤ) → Contains declared_there k → Contains (indices_of initial x entries w) k
+  there_index k m =
+      let r = filter_member (is_listed (values_of initial x)) (indices_at places) k m in
+      let s = member_unmap (λ (n : ℕ). pos (n + 1)) places k r.0 in
+      let at : entry_at entries k ≡ Some w = ap (entry_at entries) (sym s.2) ∙ entry_of entries s.0 w (stands s.0 s.1) in
+      member_filter (λ u. is_entry entries u w) (values_of initial x) k (listed_member (values_of initial x) k r.1) (test_entry (entry_at entries k) w at)
+
+  index_there : (k : ℤ) → Contains (indices_of initial x entries w) k → Contains declared_there k
+  index_there k m =
+      let r = filter_member (λ u. is_entry entries u w) (values_of initial x) k m in
+      let s = place_of entries k w (entry_test (entry_at entries k) w r.1) in
+      member_filter (is_listed (values_of initial x)) (indices_at places) k
+      (member_same (indices_at places) (pos (s.0 + 1)) k (sym s.1) (member_map (λ (n : ℕ). pos (n + 1)) places s.0 (every s.0 s.2)))
+      (member_listed (values_of initial x) k r.0)
+
+  -- they are the declared indices of the outcome
+  pub indices_there : Ascends (values_of initial x) → Ascends (map pos places) → declared_there ≡ indices_of initial x entries w
+  indices_there declared up =
+      ascending_same declared_there (indices_of initial x entries w)
+      (ascends_filter (is_listed (values_of initial x)) (indices_at places) (indices_ascend places up))
+      (ascends_filter (λ u. is_entry entries u w) (values_of initial x) declared)
+      there_index index_there
+
+-- one more place
+module _ (initial : Domains) (x : ℕ) (places : List ℕ) (i : ℕ) (lt : i < length places) (p : Pair) (var : p.var ≡ x) (value : p.value ≡ pos (get_or places i 0 + 1)) (before out now : List Pair) (b : Bool) (tells : Tells b (Has initial p.var p.value)) (so_far : out ≡ before ++ pairs_of x (filter (is_listed (values_of initial x)) (take i (indices_at places)))) where
+  here : p.value ≡ get_or (indices_at places) i p.value
+  here = value ∙ sym (get_or-map (λ (n : ℕ). pos (n + 1)) places i 0 p.value lt)
+
+  within : i < length (indices_at places)
+  within = subst (λ n. i < n) (sym (length-map places (λ (n : ℕ). pos (n + 1)))) lt
+
+  told : b ≡ is_listed (values_of initial x) p.value
+  told = listed_told (values_of initial x) p.value b (subst (λ y. Tells b (Has initial y p.value)) var tells)
+
+  pub index_pushed : (q : Pair) → q.var ≡ x → q.value ≡ pos (get_or places i 0 + 1) → b ≡ true → now ≡ out ++ q ∷ [] → now ≡ before ++ pairs_of x (filter (is_listed (values_of initial x)) (take (i + 1) (indices_at places)))
+  index_pushed q q_var q_value t pushed =
+      pairs_more (is_listed (values_of initial x)) x (indices_at places) i p.value before out now within here (sym told ∙ t) so_far
+      (pushed ∙ ap (λ (r : Pair). out ++ r ∷ []) (ap (λ y. let r : Pair = record { var = y; value = q.value } in r) q_var ∙ ap (λ w. let r : Pair = record { var = x; value = w } in r) (q_value ∙ sym value)))
+
+  pub index_left_out : b ≡ false → now ≡ out → now ≡ before ++ pairs_of x (filter (is_listed (values_of initial x)) (take (i + 1) (indices_at places)))
+  index_left_out f same = pairs_same (is_listed (values_of initial x)) x (indices_at places) i p.value before out now within here (sym told ∙ f) so_far same

@@ -3,12 +3,13 @@ ghost use Rattle.std.specs.Prelude.{◌≡◌, ◌++◌, ◌+◌, ◌<◌, ◌�
 ghost use Rattle.filter_element.specs.Element.{IsEntryOpen, IsEntryReached};
 ghost use Rattle.palm_base.specs.Tells.{Tells};
 ghost use Rattle.palm_domain.specs.Rows.{initial_of, present_of};
-ghost use Rattle.palm_model.specs.Element.{element_reason, entry_at, indices_of, is_entry, outcomes_at};
+ghost use Rattle.palm_model.specs.Domains.{AllAscend};
+ghost use Rattle.palm_model.specs.Element.{element_reason, entry_at, indices_of, outcomes_at};
 ghost use Rattle.palm_model.specs.Removed.{pairs_of};
 
 use palm_base::{NoMemory, Pair, Value, Var};
 use palm_domain::DomainStore;
-use palm_filter::{Reasons, ValueIndex, push_passing};
+use palm_filter::{Reasons, ValueIndex};
 use palm_model::{MOST_ROWS, number_of};
 
 /// `outcome` is the entry at `index`, counted from 1.
@@ -19,15 +20,20 @@ pub struct ElementRule {
     pub entries: ValueIndex,
 }
 
-/// The index of a place, which is counted from 0.
-fn index_of(place: usize) -> Value
-    requires { place < MOST_ROWS }
-    ensures { result ≡ pos (place + 1) }
-{
-    Value((place + 1) as i32)
-}
-
 impl ElementRule {
+    /// The index of a place, which is counted from 0.
+    #[inline(always)]
+    fn index_at(&self, place: usize) -> Pair
+        requires { place < MOST_ROWS }
+        ensures var { result.var ≡ self.now.index }
+        ensures value { result.value ≡ pos (place + 1) }
+    {
+        Pair {
+            var: self.index,
+            value: Value((place + 1) as i32),
+        }
+    }
+
     /// Whether the value is the entry at a present index.
     pub(crate) fn is_entry_reached(&self, store: &DomainStore, outcome: &Value) -> bool
         requires index { self.now.index < length store.now }
@@ -35,10 +41,7 @@ impl ElementRule {
         ensures { Tells result (IsEntryReached (present_of store.now) self.now outcome.now) }
     {
         for place in self.entries.places(outcome) {
-            if store.contains(Pair {
-                var: self.index,
-                value: index_of(*place),
-            }) {
+            if store.contains(self.index_at(*place)) {
                 return true;
             }
         }
@@ -70,16 +73,6 @@ impl ElementRule {
         self.entries.values().get((number - 1) as usize).copied()
     }
 
-    /// Whether the outcome is the entry at the index.
-    fn is_entry(&self, index: &Value, outcome: &Value) -> bool
-        ensures { result ≡ is_entry self.now.entries index.now outcome.now }
-    {
-        match self.entry(index) {
-            Some(entry) => entry == *outcome,
-            None => false,
-        }
-    }
-
     /// Appends the reason of the pair: the declared indices of an outcome, or the declared outcome of an index.
     pub(crate) fn push_reason(
         &self,
@@ -89,6 +82,8 @@ impl ElementRule {
     ) -> Result<(), NoMemory>
         requires outcome { self.now.outcome < length store.now }
         requires index { self.now.index < length store.now }
+        requires few { length self.now.entries ≤ MOST_ROWS }
+        requires ascend { AllAscend (initial_of store.now) }
         ensures { OnOk result (out.new.items ≡ out.old.items ++ element_reason (initial_of store.now) self.now.outcome self.now.index self.now.entries pair.now.var pair.now.value) }
     {
         if pair.var == self.outcome {
@@ -98,22 +93,25 @@ impl ElementRule {
         }
     }
 
-    /// Appends the declared indices whose entry is the outcome.
+    /// Appends the declared indices whose entry is the outcome: the places of the outcome tell which they are.
     fn push_indices(
         &self,
         store: &DomainStore,
         outcome: &Value,
         out: &mut Reasons,
     ) -> Result<(), NoMemory>
-        requires { self.now.index < length store.now }
+        requires index { self.now.index < length store.now }
+        requires few { length self.now.entries ≤ MOST_ROWS }
+        requires ascend { AllAscend (initial_of store.now) }
         ensures { OnOk result (out.new.items ≡ out.old.items ++ pairs_of self.now.index (indices_of (initial_of store.now) self.now.index self.now.entries outcome.now)) }
     {
-        push_passing(
-            store.initial_values(self.index),
-            self.index,
-            |index| self.is_entry(index, outcome),
-            out,
-        )
+        let places = self.entries.places(outcome);
+        for place in places {
+            if store.declared(self.index_at(*place)) {
+                out.push(self.index_at(*place))?;
+            }
+        }
+        Ok(())
     }
 
     /// Appends the entry at the index, where there is one and it is declared.

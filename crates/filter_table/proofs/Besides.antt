@@ -7,19 +7,18 @@ use Rattle.std.proofs.lemmas.Bool.{cases_Bool, cases_eq, both_ways, and_from, an
 use Rattle.std.proofs.lemmas.List.{get_or_default, length-map}
 use Rattle.std.proofs.lemmas.Nat.Bits.{bit_at_and, bit_at-zero, bit_at-lt, bit_at-trailing_zeros}
 use Rattle.std.proofs.lemmas.Option.{slice_get_within, get_or_from_slice_get, slice_get-get_or}
-use Rattle.palm_base.proofs.cited.Telling.{tells_true, tells_false, tells_both}
+use Rattle.palm_base.proofs.cited.Telling.{tells_both}
 use Rattle.palm_base.specs.Tells.{Tells}
 use Rattle.palm_base.specs.declared.terms.Pair.{Pair}
 use Rattle.palm_model.specs.Domains.{Domains, Has, is_among}
-use Rattle.palm_model.specs.Table.{are_there, is_blocked_at, row_pairs}
+use Rattle.palm_model.specs.Table.{are_there, row_pairs}
 use Rattle.palm_model.proofs.cited.Supports.{any_member}
 use Rattle.filter_table.specs.Beside.{AreBeside, HasBit, IsNear, IsNoted}
 use Rattle.filter_table.specs.Table.{IsIndexed, column_values, entry_at, is_support_row, row_at}
 use Rattle.filter_table.specs.declared.beside.Beside.{Beside}
 use Rattle.filter_table.specs.declared.indexed.IndexedTable.{IndexedTable}
-use Rattle.filter_table.proofs.Columned.{blocked_entry, blocked_first, blocked_parts, column_at, column_every, column_stands, column_within, has_own, own_entry, own_has, some_row, two_gives, two_fails}
+use Rattle.filter_table.proofs.Columned.{column_at, column_every, column_stands, column_within, some_row, two_gives, two_fails}
 use Rattle.filter_table.proofs.Partners.{stands_beside}
-use Rattle.filter_table.proofs.Entries.{is_first, there_column, two_missing, two_there}
 
 -- ---- two words that share a one
 
@@ -133,64 +132,6 @@ module _ (t : IndexedTable) (indexed : IsIndexed t) (two : length t.vars ≡ 2) 
   -- a value that has no word is in no row
   pub far_tells : ((k : ℕ) → IsNear b.own_least v k → ⊥) → false ≡ list_any (is_support_row d t.vars x v) t.rows
   far_tells far = no_bit (λ i n near _ _. far i near)
-
--- ---- what blocks it
-
-module _ (t : IndexedTable) (indexed : IsIndexed t) (two : length t.vars ≡ 2) (initial present : Domains) (own end x y : ℕ) (v w : ℤ) (at : slice_get t.vars own ≡ Some x) (at_end : slice_get t.vars end ≡ Some y) (apart : end ≡ 1 - own)
-    (given : Has initial x v) (has : Has present x v) (missing : Has present y w → ⊥) (b : Beside) (lookup : slice_get t.besides.items own ≡ Some b) where
-  at_beside : slice_get t.vars (1 - own) ≡ Some y
-  at_beside = subst (λ e. slice_get t.vars e ≡ Some y) apart at_end
-
-  pair_bits : AreBeside (column_values t.rows own) (column_values t.rows (1 - own)) (length (column_values t.rows own)) b
-  pair_bits = bits_of t indexed own x y at at_beside b lookup
-
-  abbrev test : List ℤ → Bool
-  test = is_blocked_at initial present t.vars x v y w
-
-  -- a row with both values is blocked, where the other one was declared
-  row_blocked : (k : ℕ) → k < length t.rows → is_among (row_pairs t.vars (row_at t.rows k)) x v ≡ true → is_among (row_pairs t.vars (row_at t.rows k)) y w ≡ true → Has initial y w → true ≡ test (row_at t.rows k)
-  row_blocked k lt among among_end declared =
-      let row = row_at t.rows k in
-      let long = indexed.long k [] lt in
-      let inside = slice_get_within t.vars own x at in
-      let own_v = own_entry t.vars t.rows indexed.distinct indexed.long own x k v at lt among in
-      let other_w = own_entry t.vars t.rows indexed.distinct indexed.long (1 - own) y k w at_beside lt among_end in
-      let all = two_there initial t.vars row long two own inside (own_has t.vars t.rows indexed.distinct indexed.long initial own x k v at lt own_v given)
-      (own_has t.vars t.rows indexed.distinct indexed.long initial (1 - own) y k w at_beside lt other_w declared) in
-      let first = two_missing present t.vars row long two own inside (own_has t.vars t.rows indexed.distinct indexed.long present own x k v at lt own_v has)
-      (λ h. missing (has_own t.vars t.rows indexed.distinct indexed.long present (1 - own) y k w at_beside lt other_w h)) in
-      blocked_first t.vars t.rows indexed.distinct indexed.long initial present own x k v (1 - own) y w true at lt own_v (sym all) at_beside among_end (is_first present t.vars row (1 - own) first)
-
-  -- so a row that is blocked has both, and the other one was declared
-  blocked_bit : (k : ℕ) → k < length t.rows → test (row_at t.rows k) ≡ true → HasBit b v w × Has initial y w
-  blocked_bit k lt h =
-      let row = row_at t.rows k in
-      let parts = blocked_parts initial present t.vars x v y w row h in
-      let among_end = blocked_entry initial present t.vars x v y w row h in
-      let inside = slice_get_within t.vars (1 - own) y at_beside in (
-        pair_bits.all k v w (column_length t own k lt) (column_every t.vars t.rows indexed.distinct indexed.long own x k v at lt parts.has)
-            (column_every t.vars t.rows indexed.distinct indexed.long (1 - own) y k w at_beside lt among_end),
-        has_own t.vars t.rows indexed.distinct indexed.long initial (1 - own) y k w at_beside lt
-            (own_entry t.vars t.rows indexed.distinct indexed.long (1 - own) y k w at_beside lt among_end)
-            (there_column initial t.vars row (indexed.long k [] lt) parts.declared (1 - own) inside),
-      )
-
-  pub without_bit : (HasBit b v w → ⊥) → false ≡ list_any test t.rows
-  without_bit none = no_row_of test t.rows (λ k lt h. none (blocked_bit k lt h).0)
-
-  pub with_bit : HasBit b v w → (declared : Bool) → Tells declared (Has initial y w) → declared ≡ list_any test t.rows
-  with_bit h declared tells = elim (cases_Bool declared) [
-    | inl t_is ↦
-        let r = pair_bits.only h.word h.bit h.own.within h.other.within h.noted in
-        let k = r.place in
-        let own_at : slice_get (column_values t.rows own) k ≡ Some v = r.own ∙ ap Some (sym h.own.is) in
-        let other_at : slice_get (column_values t.rows (1 - own)) k ≡ Some w = r.other ∙ ap Some (sym h.other.is) in
-        let lt = column_within t.vars t.rows indexed.distinct indexed.long own k v own_at in
-        t_is ∙ some_row test t.rows k lt
-        (sym (row_blocked k lt (column_stands t.vars t.rows indexed.distinct indexed.long own x k v at own_at)
-        (column_stands t.vars t.rows indexed.distinct indexed.long (1 - own) y k w at_beside other_at) (tells_true (Has initial y w) declared tells t_is)))
-    | inr f_is ↦ f_is ∙ no_row_of test t.rows (λ k lt g. tells_false (Has initial y w) declared tells f_is (blocked_bit k lt g).1)
-  ]
 
 -- ---- what stands beside it
 

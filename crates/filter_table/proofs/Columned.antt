@@ -1,8 +1,7 @@
 -- Rows, the columns of a table, and the rows that have a value in a column.
-use Rattle.std.proofs.Common.{◌≡◌, ℕ, zero, suc, ◌+◌, ◌-◌, ◌<◌, ◌≤◌, ℤ, pos, Bool, true, false, not, ◌&&◌, cond, List, [], ◌∷◌, length, map, get_or, slice_get, Some, All, Contains, eqb, eq-eqb, ne_eqb, int_eq, inl, inr, refl, sym, ap, ◌∙◌, subst, arith}
+use Rattle.std.proofs.Common.{◌≡◌, ℕ, zero, suc, ◌+◌, ◌-◌, ◌<◌, ◌≤◌, ℤ, pos, Bool, true, false, ◌&&◌, cond, List, [], ◌∷◌, length, map, get_or, slice_get, Some, All, Contains, eqb, eq-eqb, ne_eqb, inl, inr, refl, sym, ap, ◌∙◌, subst, arith}
 use Rattle.std.specs.List.{list_any}
-use Rattle.std.proofs.lemmas.Bool.{cases_Bool, cases_lt, both_ways, and_parts, and_from, false≢true}
-use Rattle.std.proofs.lemmas.Bool.Decides.{Decides-int_eq}
+use Rattle.std.proofs.lemmas.Bool.{cases_Bool, cases_lt, both_ways, and_parts, and_from}
 use Rattle.std.proofs.lemmas.List.{get_or-map, length-map, get_or_default}
 use Rattle.std.proofs.lemmas.List.Elements.{Contains-get_or}
 use Rattle.std.proofs.lemmas.Option.{slice_get_within, get_or_from_slice_get, slice_get-get_or}
@@ -99,29 +98,6 @@ module _ (vars : List ℕ) (rows : List (List ℤ)) (distinct : Distinct vars) (
   pub own_given : (d : Domains) (c x k : ℕ) (v : ℤ) → slice_get vars c ≡ Some x → k < length rows → is_among (row_pairs vars (row_at rows k)) x v ≡ true → Has d x v → HasEntry d vars (row_at rows k) c
   own_given d c x k v at lt among h = own_has d c x k v at lt (own_entry c x k v at lt among) h
 
-  -- ---- a row that is blocked
-
-  among_not : (c x k : ℕ) (v : ℤ) → slice_get vars c ≡ Some x → k < length rows → (get_or (row_at rows k) c (pos 0) ≡ v → ⊥) → is_among (row_pairs vars (row_at rows k)) x v ≡ false
-  among_not c x k v at lt n = elim (cases_Bool (is_among (row_pairs vars (row_at rows k)) x v)) [
-    | inl t ↦ absurd (n (own_entry c x k v at lt t))
-    | inr f ↦ f
-  ]
-
-  -- a row with another entry in the column of x is not
-  pub unblocked : (initial present : Domains) (c x k : ℕ) (v : ℤ) (y : ℕ) (w : ℤ) → slice_get vars c ≡ Some x → k < length rows → (get_or (row_at rows k) c (pos 0) ≡ v → ⊥) → false ≡ is_blocked_at initial present vars x v y w (row_at rows k)
-  unblocked initial present c x k v y w at lt n =
-      let ps = row_pairs vars (row_at rows k) in
-      sym (ap (λ b. b && are_there initial ps && is_among (first_missing present ps) y w) (among_not c x k v at lt n))
-
-  -- one with that entry is, where its entries are declared and that of y is the first that is not present
-  pub blocked_first : (initial present : Domains) (c x k : ℕ) (v : ℤ) (e y : ℕ) (w : ℤ) (b : Bool) → slice_get vars c ≡ Some x → k < length rows → get_or (row_at rows k) c (pos 0) ≡ v → true ≡ are_there initial (row_pairs vars (row_at rows k)) → slice_get vars e ≡ Some y → is_among (row_pairs vars (row_at rows k)) y w ≡ true → b ≡ is_among (first_missing present (row_pairs vars (row_at rows k))) (get_or vars e 0) (get_or (row_at rows k) e (pos 0)) → b ≡ is_blocked_at initial present vars x v y w (row_at rows k)
-  blocked_first initial present c x k v e y w b at lt own declared at_end stands first =
-      let ps = row_pairs vars (row_at rows k) in
-      let missing = is_among (first_missing present ps) y w in
-      first ∙ ap (λ z. is_among (first_missing present ps) z (get_or (row_at rows k) e (pos 0))) (get_or_from_slice_get vars e y 0 at_end)
-      ∙ ap (λ u. is_among (first_missing present ps) y u) (own_entry e y k w at_end lt stands)
-      ∙ ap (λ t. t && missing) declared ∙ ap (λ t. t && are_there initial ps && missing) (sym (entry_own c x k v at lt own))
-
 -- ---- the places that the index of a column lends
 
 module _ (t : IndexedTable) (indexed : IsIndexed t) (c x : ℕ) (v : ℤ) (at : slice_get t.vars c ≡ Some x) (list : List ℤ) (of_columns : list ≡ get_or t.columns.items c list) (places : List ℕ) where
@@ -200,13 +176,6 @@ module _ (vars : List ℕ) (rows : List (List ℤ)) (places : List ℕ) (x : ℕ
       let row = row_at rows (get_or places j d) in
       both_ways (are_there present (row_pairs vars row)) (missing j d lt) (and_parts (is_among (row_pairs vars row) x v) (are_there present (row_pairs vars row)) h).1)
 
-  -- no row that is looked at is blocked at x and v
-  pub none_blocked : (initial present : Domains) (z : ℕ) (u : ℤ) → ((j d : ℕ) → j < length places → is_blocked_at initial present vars z u x v (row_at rows (get_or places j d)) ≡ false) → false ≡ list_any (is_blocked_at initial present vars z u x v) rows
-  none_blocked initial present z u not_blocked =
-      no_row (is_blocked_at initial present vars z u x v) rows places
-      (λ k lt h. every k lt (blocked_entry initial present vars z u x v (row_at rows k) h))
-      (λ j d lt h. both_ways (is_blocked_at initial present vars z u x v (row_at rows (get_or places j d))) (not_blocked j d lt) h)
-
 -- one more row that does not pass a test
 pub no_row_more : (p : List ℤ → Bool) (rows : List (List ℤ)) (places : List ℕ) (i : ℕ) (row : List ℤ) (e : ℕ) → i < length places → row ≡ row_at rows (get_or places i e) → p row ≡ false → ((k d : ℕ) → 0 ≤ k → k < i → p (row_at rows (get_or places k d)) ≡ false) → (k d : ℕ) → 0 ≤ k → k < i + 1 → p (row_at rows (get_or places k d)) ≡ false
 no_row_more p rows places i row e lt at fails before k d low below = elim (cases_lt k i) [
@@ -252,15 +221,3 @@ module _ (t : IndexedTable) (indexed : IsIndexed t) (two : length t.vars ≡ 2) 
   two_fails h =
       let row = row_at t.rows k in
       two_not d t.vars row (indexed.long k [] lt) two own (slice_get_within t.vars own x at) own_in (entry_lacks d t.vars row (1 - own) p b is tells h)
-
--- ---- a test of an entry
-
-pub unlike : (b : Bool) (w v : ℤ) → b ≡ not (int_eq w v) → b ≡ true → w ≡ v → ⊥
-unlike b w v e t same = false≢true (sym (e ∙ ap not ((Decides-int_eq w v).1 same)) ∙ t)
-
-pub alike : (b : Bool) (w v : ℤ) → b ≡ not (int_eq w v) → b ≡ false → w ≡ v
-alike b w v e f = (Decides-int_eq w v).0 (not_false (int_eq w v) (sym e ∙ f))
-  where
-    not_false : (c : Bool) → not c ≡ false → c ≡ true
-    not_false true h = refl
-    not_false false h = absurd (false≢true (sym h))

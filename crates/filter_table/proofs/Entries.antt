@@ -100,21 +100,6 @@ module _ (d : Domains) (vars : List ℕ) (row : List ℤ) (long : length row ≡
     | inr f ↦ f
   ]
 
--- the first entry that is not there is the other one, where that is not
-pub two_missing : (d : Domains) (vars : List ℕ) (row : List ℤ) → length row ≡ length vars → length vars ≡ 2 → (own : ℕ) → own < length vars → HasEntry d vars row own → (HasEntry d vars row (1 - own) → ⊥)
-    → first_missing d (row_pairs vars row) ≡ entry_at vars row (1 - own) ∷ []
-two_missing d vars row long two own lt has n = elim (nat_known own 0) [
-  | inl first ↦
-      let other : 1 - own ≡ 1 = omega (arith, first) in
-      subst (λ c. first_missing d (row_pairs vars row) ≡ entry_at vars row c ∷ []) (sym other)
-      (missing_here vars row long d 1 (omega (arith, two)) (missing_later vars row long d 0 (omega (arith, two)) refl (subst (HasEntry d vars row) first has))
-      (subst (λ c. HasEntry d vars row c → ⊥) other n))
-  | inr last ↦
-      let other : 1 - own ≡ 0 = omega (arith, last) in
-      subst (λ c. first_missing d (row_pairs vars row) ≡ entry_at vars row c ∷ []) (sym other)
-      (missing_here vars row long d 0 (omega (arith, two)) refl (subst (λ c. HasEntry d vars row c → ⊥) other n))
-]
-
 -- ---- the first entry that is not there
 
 pub is_first : (d : Domains) (vars : List ℕ) (row : List ℤ) (c : ℕ) → first_missing d (row_pairs vars row) ≡ entry_at vars row c ∷ [] → true ≡ is_among (first_missing d (row_pairs vars row)) (get_or vars c 0) (get_or row c (pos 0))

@@ -6,3 +6,4 @@ pub mod Besides
 pub mod Blocking
 pub mod Intervals
 pub mod Supporting
+pub mod Ordering

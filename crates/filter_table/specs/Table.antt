@@ -1,11 +1,9 @@
 -- A table, its columns, and the rows that give a value.
-use Rattle.std.specs.Prelude.{◌≡◌, ℕ, ◌-◌, ℤ, pos, ◌<◌, List, [], length, map, All, Bool, not, ◌&&◌, Some, slice_get, slice_index_or}
-use Rattle.std.specs.List.{list_any}
+use Rattle.std.specs.Prelude.{◌≡◌, ℕ, ◌-◌, ℤ, pos, ◌<◌, List, [], length, map, All, Bool, ◌&&◌, Some, slice_get, slice_index_or}
 use Rattle.palm_base.specs.declared.terms.Pair.{Pair}
 use Rattle.palm_model.specs.Constraint.{Distinct}
-use Rattle.palm_model.specs.Domains.{Domains, Has, is_among, values_of}
-use Rattle.palm_model.specs.Table.{are_there, is_blocked_at, row_pairs}
-use Rattle.palm_model.specs.Removed.{is_listed}
+use Rattle.palm_model.specs.Domains.{Domains, Has, is_among}
+use Rattle.palm_model.specs.Table.{are_there, row_pairs}
 use Rattle.palm_model.specs.declared.constraint.Con.{Con}
 use Rattle.palm_model.specs.declared.constraint.Con.TheVariants.{Table}
 use Rattle.filter_table.specs.Beside.{AreBeside}
@@ -50,7 +48,3 @@ pub record IsIndexed (t : IndexedTable) : Type 0 where
 -- whether the row has v in the column of x, and every entry of it is present
 abbrev pub is_support_row : Domains → List ℕ → ℕ → ℤ → List ℤ → Bool
 is_support_row present vars x v row = is_among (row_pairs vars row) x v && are_there present (row_pairs vars row)
-
--- whether w of y is not present, and the first such entry of some row with v in the column of x and all entries declared
-abbrev pub is_blocker : Domains → Domains → List ℕ → List (List ℤ) → ℕ → ℤ → ℕ → ℤ → Bool
-is_blocker initial present vars rows x v y w = not (is_listed (values_of present y) w) && list_any (is_blocked_at initial present vars x v y w) rows

@@ -1,18 +1,19 @@
 //! A table with an index of each of its columns.
-ghost use Rattle.std.specs.Prelude.{◌≡◌, ◌++◌, [], ◌∷◌, ℕ, ◌<◌, length, true, All, Contains, IfOk, IfSome, OnOk, MatchOption, Some, slice_get};
+ghost use Rattle.std.specs.Prelude.{◌≡◌, ◌++◌, ℕ, ◌<◌, length, true, All, Contains, IfOk, IfSome, OnOk, MatchOption, Some, slice_get};
 ghost use Rattle.std.specs.List.{list_any};
-ghost use Rattle.filter_table.specs.Table.{AreBesides, AreColumns, IsIndexed, column_values, is_support_row, is_blocker, row_at, table_of};
+ghost use Rattle.filter_table.specs.Table.{AreBesides, AreColumns, IsIndexed, column_values, is_support_row, row_at, table_of};
 ghost use Rattle.palm_domain.specs.Rows.{initial_of, present_of};
 ghost use Rattle.palm_model.specs.Constraint.{Distinct};
 ghost use Rattle.palm_model.specs.declared.constraint.Con.{Con};
-ghost use Rattle.palm_model.specs.Domains.{Has, is_among};
-ghost use Rattle.palm_model.specs.Table.{blocking_values, is_blocked_at, row_pairs, table_reason};
+ghost use Rattle.palm_model.specs.Domains.{AllAscend, Has, is_among};
+ghost use Rattle.palm_model.specs.Table.{blocking_values, row_pairs, table_reason};
 ghost use Rattle.palm_model.specs.Removed.{others, pairs_of};
 
 use crate::beside::{Beside, near};
+use crate::ordered::put_pair;
 use palm_base::{NoMemory, Pair, Value, ValueList, Var, VarList};
 use palm_domain::DomainStore;
-use palm_filter::{Reasons, ValueIndex, is_missing, push_passing};
+use palm_filter::{Reasons, ValueIndex};
 use palm_model::RowList;
 use std::alloc::Global;
 
@@ -197,98 +198,8 @@ impl IndexedTable {
         false
     }
 
-    /// Whether the entry of `at`, in the column `end`, is the first removed one of some row that could have given the
-    /// value of `pair`. It looks at the rows that have the entry, unless bits tell it.
-    fn is_blocking(
-        &self,
-        store: &DomainStore,
-        own: usize,
-        pair: &Pair,
-        end: usize,
-        at: &Pair,
-    ) -> bool
-        requires indexed { IsIndexed self.now }
-        requires declared { All (λ x. x < length store.now) self.now.vars }
-        requires own { slice_get self.now.vars own ≡ Some pair.now.var }
-        requires given { Has (initial_of store.now) pair.now.var pair.now.value }
-        requires present { Has (present_of store.now) pair.now.var pair.now.value }
-        requires end { slice_get self.now.vars end ≡ Some at.now.var }
-        requires missing { Has (present_of store.now) at.now.var at.now.value → ⊥ }
-        ensures { result ≡ list_any (is_blocked_at (initial_of store.now) (present_of store.now) self.now.vars pair.now.var pair.now.value at.now.var at.now.value) self.now.rows }
-    {
-        if let Some(blocking) = self.is_blocking_beside(store, own, pair, end, at) {
-            return blocking;
-        }
-        self.is_blocking_by_rows(store, own, pair, end, at)
-    }
-
-    /// The same of a table of two columns, by bits: whether some row has both values, and the one of `at` was declared.
-    /// There is no answer where the values of a column do not lie close together.
-    fn is_blocking_beside(
-        &self,
-        store: &DomainStore,
-        own: usize,
-        pair: &Pair,
-        end: usize,
-        at: &Pair,
-    ) -> Option<bool>
-        requires indexed { IsIndexed self.now }
-        requires declared { All (λ x. x < length store.now) self.now.vars }
-        requires own { slice_get self.now.vars own ≡ Some pair.now.var }
-        requires given { Has (initial_of store.now) pair.now.var pair.now.value }
-        requires present { Has (present_of store.now) pair.now.var pair.now.value }
-        requires end { slice_get self.now.vars end ≡ Some at.now.var }
-        requires missing { Has (present_of store.now) at.now.var at.now.value → ⊥ }
-        ensures { IfSome result (λ blocking. blocking ≡ list_any (is_blocked_at (initial_of store.now) (present_of store.now) self.now.vars pair.now.var pair.now.value at.now.var at.now.value) self.now.rows) }
-    {
-        if self.vars.len() != 2 || end == own {
-            return None;
-        }
-        let beside = self.besides.get(own)?;
-        Some(beside.has(pair.value, at.value) && store.declared(*at))
-    }
-
-    /// The same by the rows that have the entry.
-    fn is_blocking_by_rows(
-        &self,
-        store: &DomainStore,
-        own: usize,
-        pair: &Pair,
-        end: usize,
-        at: &Pair,
-    ) -> bool
-        requires indexed { IsIndexed self.now }
-        requires declared { All (λ x. x < length store.now) self.now.vars }
-        requires own { slice_get self.now.vars own ≡ Some pair.now.var }
-        requires given { Has (initial_of store.now) pair.now.var pair.now.value }
-        requires present { Has (present_of store.now) pair.now.var pair.now.value }
-        requires end { slice_get self.now.vars end ≡ Some at.now.var }
-        requires missing { Has (present_of store.now) at.now.var at.now.value → ⊥ }
-        ensures { result ≡ list_any (is_blocked_at (initial_of store.now) (present_of store.now) self.now.vars pair.now.var pair.now.value at.now.var at.now.value) self.now.rows }
-    {
-        for place in self.places(end, at) {
-            if self.is_blocked_at(store, own, pair, end, at, *place) {
-                return true;
-            }
-        }
-        false
-    }
-
-    /// Whether the value is removed from the variable of the column `end`, and the first such entry of some row that
-    /// could have given the value of `pair`.
-    fn blocks(&self, store: &DomainStore, own: usize, pair: &Pair, end: usize, at: &Pair) -> bool
-        requires indexed { IsIndexed self.now }
-        requires declared { All (λ x. x < length store.now) self.now.vars }
-        requires own { slice_get self.now.vars own ≡ Some pair.now.var }
-        requires given { Has (initial_of store.now) pair.now.var pair.now.value }
-        requires present { Has (present_of store.now) pair.now.var pair.now.value }
-        requires end { slice_get self.now.vars end ≡ Some at.now.var }
-        ensures { result ≡ is_blocker (initial_of store.now) (present_of store.now) self.now.vars self.now.rows pair.now.var pair.now.value at.now.var at.now.value }
-    {
-        is_missing(store, at.var, &at.value) && self.is_blocking(store, own, pair, end, at)
-    }
-
-    /// Appends every removed pair of the variable, in the column `end`, that blocks a row with the value of `pair`.
+    /// Appends every removed pair of the variable, in the column `end`, that blocks a row with the value of `pair`. It looks
+    /// at no other rows.
     fn push_blocking(
         &self,
         store: &DomainStore,
@@ -304,21 +215,16 @@ impl IndexedTable {
         requires given { Has (initial_of store.now) pair.now.var pair.now.value }
         requires present { Has (present_of store.now) pair.now.var pair.now.value }
         requires end { slice_get self.now.vars end ≡ Some var.now }
-        requires known { var.now < length store.now }
+        requires ascend { AllAscend (initial_of store.now) }
         ensures { OnOk result (out.new.items ≡ out.old.items ++ pairs_of var.now (blocking_values (initial_of store.now) (present_of store.now) self.now.vars self.now.rows pair.now.var pair.now.value var.now)) }
     {
-        push_passing(
-            store.initial_values(*var),
-            *var,
-            |value| {
-                let at = Pair {
-                    var: *var,
-                    value: *value,
-                };
-                self.blocks(store, own, pair, end, &at)
-            },
-            out,
-        )
+        let from = out.len();
+        for place in self.places(own, pair) {
+            if self.is_blocked_at(store, own, end, *place) {
+                put_pair(out, from, self.pair_at(end, *place))?;
+            }
+        }
+        Ok(())
     }
 
     /// Appends the reason of the pair: for each row that could have given its value, the first removed entry.
@@ -333,6 +239,7 @@ impl IndexedTable {
         requires given { Has (initial_of store.now) pair.now.var pair.now.value }
         requires present { Has (present_of store.now) pair.now.var pair.now.value }
         requires over { Contains self.now.vars pair.now.var }
+        requires ascend { AllAscend (initial_of store.now) }
         ensures { OnOk result (out.new.items ≡ out.old.items ++ table_reason (initial_of store.now) (present_of store.now) self.now.vars self.now.rows pair.now.var pair.now.value) }
     {
         let Some(own) = column_of(self.vars.as_slice(), &pair.var) else {

@@ -4,6 +4,7 @@
 mod beside;
 mod indexed;
 mod listing;
+mod ordered;
 mod row;
 mod table;
 

@@ -23,7 +23,7 @@ impl IndexedTable {
 
     /// The entry with the variable of its column.
     #[inline(always)]
-    fn pair_at(&self, column: usize, place: usize) -> Pair
+    pub(crate) fn pair_at(&self, column: usize, place: usize) -> Pair
         requires indexed { IsIndexed self.now }
         requires column { column < length self.now.vars }
         requires place { place < length self.now.rows }
@@ -89,30 +89,28 @@ impl IndexedTable {
         true
     }
 
-    /// Whether the row, which has the value of `at` in the column `end`, could have given the value of `pair` in the
-    /// column `own`, and the first of its entries that is removed is that of `at`.
-    #[inline(always)]
+    /// Whether the row, which could have given its value in the column `own`, is blocked in the column `end`: each of its
+    /// entries is declared, and the first one that is removed stands there.
     pub(crate) fn is_blocked_at(
         &self,
         store: &DomainStore,
         own: usize,
-        pair: &Pair,
         end: usize,
-        at: &Pair,
         place: usize,
     ) -> bool
         requires indexed { IsIndexed self.now }
         requires declared { All (λ x. x < length store.now) self.now.vars }
         requires place { place < length self.now.rows }
-        requires own { slice_get self.now.vars own ≡ Some pair.now.var }
-        requires given { Has (initial_of store.now) pair.now.var pair.now.value }
-        requires present { Has (present_of store.now) pair.now.var pair.now.value }
-        requires end { slice_get self.now.vars end ≡ Some at.now.var }
-        requires missing { Has (present_of store.now) at.now.var at.now.value → ⊥ }
-        requires stands { is_among (row_pairs self.now.vars (row_at self.now.rows place)) at.now.var at.now.value ≡ true }
-        ensures { result ≡ is_blocked_at (initial_of store.now) (present_of store.now) self.now.vars pair.now.var pair.now.value at.now.var at.now.value (row_at self.now.rows place) }
+        requires own { own < length self.now.vars }
+        requires given { HasEntry (initial_of store.now) self.now.vars (row_at self.now.rows place) own }
+        requires present { HasEntry (present_of store.now) self.now.vars (row_at self.now.rows place) own }
+        requires end { end < length self.now.vars }
+        ensures { result ≡ is_blocked_at (initial_of store.now) (present_of store.now) self.now.vars
+            (slice_index_or self.now.vars own 0) (slice_index_or (row_at self.now.rows place) own (pos 0))
+            (slice_index_or self.now.vars end 0) (slice_index_or (row_at self.now.rows place) end (pos 0))
+            (row_at self.now.rows place) }
     {
-        if self.entry(own, place) != pair.value {
+        if store.contains(self.pair_at(end, place)) {
             return false;
         }
         self.are_declared(store, own, place) && self.are_present_before(store, own, end, place)

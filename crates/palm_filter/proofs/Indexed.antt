@@ -1,9 +1,11 @@
 -- The places of a value stand together where places are sorted by their values.
-use Rattle.std.proofs.Common.{◌≡◌, ℕ, zero, suc, ℤ, pos, eqb, eq-eqb, ◌+ℤ◌, ◌+◌, ◌-◌, ◌<◌, ◌≤◌, ◌<ℤ◌, ◌≤ℤ◌, Bool, true, false, List, [], ◌∷◌, ◌++◌, length, take, drop, get_or, Contains, slice_get, Some, int_cmp, is_lt, is_le, inl, inr, refl, sym, ap, ◌∙◌, subst, arith}
-use Rattle.std.specs.List.Sorted.{IsPermutation, IsSortedByKey, IsPartitionedBy, IsPartitionPoint}
-use Rattle.std.proofs.lemmas.Cmp.{int_cmp_total}
+use Rattle.std.proofs.Common.{◌≡◌, ℕ, zero, suc, ℤ, pos, eqb, eq-eqb, ◌+ℤ◌, ◌+◌, ◌-◌, ◌<◌, ◌≤◌, ◌<ℤ◌, ◌≤ℤ◌, Bool, true, false, List, [], ◌∷◌, ◌++◌, length, take, drop, get_or, Contains, slice_get, Some, map, Ordering, nat_cmp, int_cmp, is_lt, is_le, inl, inr, refl, sym, ap, ◌∙◌, subst, arith}
+use Rattle.std.specs.Cmp.{IsTotalOrder}
+use Rattle.std.specs.List.Sorted.{IsPermutation, IsSortedBy, IsPartitionedBy, IsPartitionPoint}
+use Rattle.std.specs.Ordering.{ordering_then}
+use Rattle.std.proofs.lemmas.Cmp.{by_ranked, int_cmp_total, int_ranked, nat_cmp_total, on_total, ranked, then_total}
 use Rattle.std.proofs.lemmas.Int.{ints}
-use Rattle.std.proofs.lemmas.Bool.{cases_lt}
+use Rattle.std.proofs.lemmas.Bool.{cases_lt, false≢true}
 use Rattle.std.proofs.lemmas.List.{get_or-take, get_or-drop, length-take, length-drop}
 use Rattle.std.proofs.lemmas.List.Elements.{Contains-get_or, Contains-push_cases, Contains-append_left, Contains-append_right}
 use Rattle.std.proofs.lemmas.List.Sorted.{ranks_by, sorted_far, Contains-permutation, IsPermutation-sym}
@@ -11,7 +13,8 @@ use Rattle.std.proofs.lemmas.Option.{slice_get_within, get_or_from_slice_get, sl
 use Rattle.std.specs.List.{AllByRecursion, IsDistinct}
 use Rattle.std.proofs.lemmas.Bool.{both_ways, eqb-true}
 use Rattle.std.proofs.lemmas.Map.Keys.{IsDistinct-IsPermutation}
-use Rattle.palm_base.proofs.cited.Members.{member_cases, member_here, member_nil, member_there}
+use Rattle.palm_base.proofs.cited.Members.{all_members, member_cases, member_here, member_nil, member_same, member_there, member_unmap}
+use Rattle.palm_base.specs.Ascending.{Ascends}
 use Rattle.palm_domain.proofs.cited.Comparisons.{lt_from_is_lt, ge_from_is_lt, le_from_is_le, gt_from_is_le}
 use Rattle.palm_model.specs.Constraint.{Distinct}
 use Rattle.palm_filter.specs.Index.{IsIndex, IsStart, value_at}
@@ -104,13 +107,68 @@ part_once places from end once = distinct_take (end - from) (drop from places) (
 
 -- ---- sorted by their values
 
-pub index_from_sort : (values : List ℤ) (places sorted : List ℕ) (n : ℕ) → n ≡ length values → ((k : ℕ) → Contains places k → k < n) → ((k : ℕ) → k < n → Contains places k) → Distinct places → IsPermutation places sorted → IsSortedByKey (value_at values) int_cmp sorted → IsIndex values sorted
-index_from_sort values places sorted n e within every once moved up = record {
-  within = λ k m. let l = within k (Contains-permutation sorted places k (IsPermutation-sym places sorted moved) m) in omega arith;
-  every = λ k lt. Contains-permutation places sorted k moved (every k (omega arith));
-  once = distinct_moved places sorted moved once;
-  rise = λ i j d le lt. ge_from_is_lt (value_at values (get_or sorted j d)) (value_at values (get_or sorted i d)) (sym (sorted_far (λ a b. is_lt (int_cmp (value_at values a) (value_at values b))) (ranks_by int_cmp_total (value_at values)) sorted up i j d le lt));
-}
+-- the order by value, and where values are equal by place
+abbrev pub by_value : List ℤ → ℕ → ℕ → Ordering
+by_value values j k = ordering_then (int_cmp (value_at values j) (value_at values k)) (nat_cmp j k)
+
+by_value_total : (values : List ℤ) → IsTotalOrder (by_value values)
+by_value_total values = then_total (on_total (value_at values) int_cmp_total) (on_total (λ (k : ℕ). k) nat_cmp_total)
+
+-- the first place does not come after the second one
+record IsUpTo (values : List ℤ) (j k : ℕ) : Type 0 where
+  value : value_at values j ≤ℤ value_at values k
+  place : value_at values j ≡ value_at values k → j ≤ k
+
+up_to : (values : List ℤ) (j k : ℕ) → is_lt (by_value values k j) ≡ false → IsUpTo values j k
+up_to values j k e =
+    let v = value_at values j in
+    let w = value_at values k in
+    by_ranked (w <ℤ v) (w ≡ v) (v <ℤ w) (int_cmp w v) (int_ranked w v (int_cmp w v) refl)
+    (λ is lt. absurd (false≢true (sym e ∙ ap (λ (o : Ordering). is_lt (ordering_then o (nat_cmp k j))) is)))
+    (λ is same.
+    by_ranked (k < j) (k ≡ j) (j < k) (nat_cmp k j) (ranked k j (nat_cmp k j) refl)
+    (λ too lt. absurd (false≢true (sym e ∙ ap (λ (o : Ordering). is_lt (ordering_then o (nat_cmp k j))) is ∙ ap is_lt too)))
+    (λ too one. record { value = omega (arith, ints, same); place = λ _. omega (arith, one) })
+    (λ too lt. record { value = omega (arith, ints, same); place = λ _. omega (arith, lt) }))
+    (λ is lt. record { value = omega (arith, ints, lt); place = λ one. absurd (omega (arith, ints, lt, one)) })
+
+-- different places of a list without repeats have different numbers
+distinct_apart : (ks : List ℕ) → Distinct ks → (i j d : ℕ) → i < j → j < length ks → get_or ks i d ≡ get_or ks j d → ⊥
+distinct_apart [] once i j d before lt e = absurd (omega arith)
+distinct_apart (k ∷ ks) once i zero d before lt e = absurd (omega arith)
+distinct_apart (k ∷ ks) once zero (suc j) d before lt e = once.0 (member_same ks (get_or ks j d) k (sym e) (Contains-get_or ks j d (omega arith)))
+distinct_apart (k ∷ ks) once (suc i) (suc j) d before lt e = distinct_apart ks once.1 i j d (omega arith) (omega arith) e
+
+pub index_from_sort : (values : List ℤ) (places sorted : List ℕ) (n : ℕ) → n ≡ length values → ((k : ℕ) → Contains places k → k < n) → ((k : ℕ) → k < n → Contains places k) → Distinct places → IsPermutation places sorted → IsSortedBy (λ j k. is_lt (by_value values j k)) sorted → IsIndex values sorted
+index_from_sort values places sorted n e within every once moved up =
+    let apart = distinct_moved places sorted moved once in
+    let told : (i j d : ℕ) → i ≤ j → j < length sorted → IsUpTo values (get_or sorted i d) (get_or sorted j d)
+    = λ i j d le lt. up_to values (get_or sorted i d) (get_or sorted j d) (sorted_far (λ j k. is_lt (by_value values j k)) (ranks_by (by_value_total values) (λ (k : ℕ). k)) sorted up i j d le lt) in
+    record {
+      within = λ k m. let l = within k (Contains-permutation sorted places k (IsPermutation-sym places sorted moved) m) in omega arith;
+      every = λ k lt. Contains-permutation places sorted k moved (every k (omega arith));
+      once = apart;
+      rise = λ i j d le lt. (told i j d le lt).value;
+      ascend = λ i j d before lt same.
+          let le = (told i j d (omega (arith, before)) lt).place same in
+          elim (cases_lt (get_or sorted i d) (get_or sorted j d)) [
+            | inl l ↦ l
+            | inr ge ↦ absurd (distinct_apart sorted apart i j d before lt (omega (arith, le, ge)))
+          ];
+    }
+
+-- ---- places that rise ascend as numbers
+
+rising_ascends : (ks : List ℕ) → ((i j d : ℕ) → i < j → j < length ks → get_or ks i d < get_or ks j d) → Ascends (map pos ks)
+rising_ascends [] up = tt
+rising_ascends (k ∷ ks) up = (
+  all_members (λ w. pos k <ℤ w) (map pos ks) (λ w m.
+      let r = member_unmap pos ks w m in
+      let lt = up 0 (suc r.1.0) r.0 (omega arith) (omega (arith, r.1.1)) in
+      let above : k < r.0 = subst (λ n. k < n) r.1.2 lt in
+      subst (λ u. pos k <ℤ u) r.2 (omega (arith, ints, above))),
+  rising_ascends ks (λ i j d before lt. up (suc i) (suc j) d (omega arith) (omega arith)),
+)
 
 -- ---- found by halves
 
@@ -199,3 +257,14 @@ module _ (values : List ℤ) (places : List ℕ) (index : IsIndex values places)
       let here : get_or (take (end - from) (drop from places)) (j - from) k ≡ k =
       get_or-take (end - from) (drop from places) (j - from) k (omega arith) ∙ get_or-drop from places (j - from) k ∙ ap (λ z. get_or places z k) back ∙ m.2 in
       (j - from, omega (arith, length-take (end - from) (drop from places), length-drop from places), here)
+
+  value_there : (x d : ℕ) → from ≤ x → x < end → value_at values (get_or places x d) ≡ v
+  value_there x d ge lt = get_or_from_slice_get values (get_or places x d) v (pos 0) (stands_at x d ge lt)
+
+  pub part_ascends : Ascends (map pos (take (end - from) (drop from places)))
+  part_ascends = rising_ascends (take (end - from) (drop from places)) (λ i j d before lt.
+      let far : j < end - from = omega (arith, lt, length-take (end - from) (drop from places)) in
+      let at : (x : ℕ) → x < end - from → get_or (take (end - from) (drop from places)) x d ≡ get_or places (from + x) d
+      = λ x l. get_or-take (end - from) (drop from places) x d l ∙ get_or-drop from places x d in
+      let up = index.ascend (from + i) (from + j) d (omega arith) (omega (arith, next.within)) (value_there (from + i) d (omega arith) (omega arith) ∙ sym (value_there (from + j) d (omega arith) (omega arith))) in
+      omega (arith, at i (omega arith), at j far, up))

@@ -1,12 +1,13 @@
 -- Where the places of each number start, where places are sorted by their values.
-use Rattle.std.proofs.Common.{◌≡◌, ℕ, ℤ, pos, ◌+ℤ◌, ◌+◌, ◌-◌, ◌<◌, ◌≤◌, ◌<ℤ◌, ◌≤ℤ◌, List, [], ◌∷◌, ◌++◌, length, take, drop, get_or, Contains, slice_get, Some, inl, inr, sym, ap, ◌∙◌, subst, arith}
+use Rattle.std.proofs.Common.{◌≡◌, ℕ, ℤ, pos, ◌+ℤ◌, ◌+◌, ◌-◌, ◌<◌, ◌≤◌, ◌<ℤ◌, ◌≤ℤ◌, List, [], ◌∷◌, ◌++◌, length, map, take, drop, get_or, Contains, slice_get, Some, inl, inr, sym, ap, ◌∙◌, subst, arith}
 use Rattle.std.proofs.lemmas.Int.{ints}
 use Rattle.std.proofs.lemmas.Bool.{cases_lt}
 use Rattle.std.proofs.lemmas.List.{get_or_append_left, get_or_default, get_or_push, length-append}
 use Rattle.std.proofs.lemmas.Option.{slice_get_within, get_or_from_slice_get}
+use Rattle.palm_base.specs.Ascending.{Ascends}
 use Rattle.palm_filter.specs.Index.{AreStarts, AreStartsFrom, IsGreatest, IsIndex, IsLeast, IsStart, IsStarted, value_at}
 use Rattle.palm_model.specs.Constraint.{Distinct}
-use Rattle.palm_filter.proofs.Indexed.{ordered, part_stands, part_every, part_once}
+use Rattle.palm_filter.proofs.Indexed.{ordered, part_ascends, part_stands, part_every, part_once}
 
 -- ---- the ends of the places
 
@@ -94,3 +95,6 @@ module _ (values : List ℤ) (places lent : List ℕ) (least : ℤ) (starts : Li
 
   pub started_once : Distinct (take (end - from) (drop from lent))
   started_once = part_once lent from end (subst Distinct (sym same) is.index.once)
+
+  pub started_ascends : Ascends (map pos (take (end - from) (drop from lent)))
+  started_ascends = subst (λ ps. Ascends (map pos (take (end - from) (drop from ps)))) (sym same) (part_ascends values places is.index v from end start next)

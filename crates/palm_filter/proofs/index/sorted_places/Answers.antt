@@ -14,4 +14,4 @@ loop-place-preserved c = record {
 pub returns : goal.returns
 returns c =
     index_from_sort c.args.values.now c.loop-place.places.items c.sort_unstable_by_key.new.self.items c.loop-place.place (omega arith) c.loop-place.invariant.within c.loop-place.invariant.every c.loop-place.invariant.once c.sort_unstable_by_key.ensures.permutation
-    (c.sort_unstable_by_key.ensures.sorted (λ k. value_at c.args.values.now k) (always_returns_same _ _ _ (λ a r f k. search (rules, of_calls))))
+    (c.sort_unstable_by_key.ensures.sorted (λ k. (value_at c.args.values.now k, k)) (always_returns_same _ _ _ (λ a r f k. search (rules, of_calls))))
