@@ -43,3 +43,14 @@ pub record BeginsBelow (words : List PlaceWord) (index end : ℕ) : Type 0 where
   pub within : index < length words
   pub here : (d : PlaceWord) → (slice_index_or words index d).start < end
   pub before : (d : PlaceWord) → 0 < index → end ≤ (slice_index_or words (index - 1) d).start
+
+-- each of the words begins behind the place
+abbrev pub AllBegin : List PlaceWord → ℕ → Type 0
+AllBegin words start = (k : ℕ) (d : PlaceWord) → k < length words → start < (slice_index_or words k d).start
+
+-- a word is missing behind the last one: it would begin at `next`, behind `start`
+pub record IsMissing (words : List PlaceWord) (start next : ℕ) : Type 0 where
+  pub some : 0 < length words
+  pub behind : start < next
+  pub aligned : next % 64 ≡ 0
+  pub last : AllBegin words next

@@ -1,16 +1,16 @@
 //! Which removals the removals of values rest on: a walk down the log from one needed removal to the next. What no needed removal has
 //! among its reasons is not looked at, however many such removals stand between. A reason is removed before what it is a reason
 //! for, so that none comes up behind the walk.
-ghost use Rattle.std.specs.Prelude.{◌≡◌, ◌↔◌, ℕ, ◌<◌, [], Some, Contains, length, slice_get, IfOk, OnOk};
+ghost use Rattle.std.specs.Prelude.{◌≡◌, ◌↔◌, ℕ, ◌<◌, ◌+ℤ◌, ◌-ℤ◌, pos, [], Some, Contains, length, slice_get, IfOk, OnOk};
 ghost use Rattle.palm_model.specs.Log.{IsListOf};
 ghost use Rattle.palm_explain.specs.Entries.{AreEntered, log_of, pairs_with, row_span, span_pairs, written};
 ghost use Rattle.palm_explain.specs.Explanations.{NamesOfSome};
-ghost use Rattle.palm_explain.specs.Needed.{AreNotedSpans, Falls, HasNoted, IsNeededAt, IsNotedSpan};
+ghost use Rattle.palm_explain.specs.Needed.{AreBothNoted, AreNotedSpans, Falls, HasNoted, IsNeededAt, IsNotedSpan};
 ghost use Rattle.palm_explain.specs.Rows.{AreFormedRows};
 
 use crate::cid_set::CidSet;
-use crate::entry::{Entry, place_of};
-use crate::noted::{NotedSpan, empty_spans, noted_of, set_noted, wider};
+use crate::entry::{Entry, place_near};
+use crate::noted::{NotedSpan, NotedSpans, empty_spans, noted_of, set_noted, wider};
 use crate::places::Places;
 use crate::rows::{NO_NUMBER, Row, number_near, row_at};
 use crate::spans::Span;
@@ -57,7 +57,45 @@ fn note_between(
     Ok(())
 }
 
-/// Notes the numbers of the reasons of a span, but for those that the known span of its variable holds. What is known then is the
+/// Notes the numbers of those values of a variable from `low` on, but below `end`, that were removed before the number.
+#[inline(always)]
+fn note_below(
+    rows: &[Row],
+    var: Var,
+    low: Value,
+    end: Value,
+    number: usize,
+    noted: &mut Places,
+) -> Result<(), NoMemory>
+    requires { AreFormedRows rows.now }
+    ensures { OnOk result (HasNoted rows.now noted.old noted.new (pairs_with var (row_span (slice_get rows.now var) number low (end -ℤ pos 1)))) }
+{
+    if low.0 < end.0 {
+        return note_between(rows, var, low, Value(end.0 - 1), number, noted);
+    }
+    Ok(())
+}
+
+/// Notes the numbers of those values of a variable behind `start`, up to `high`, that were removed before the number.
+#[inline(always)]
+fn note_behind(
+    rows: &[Row],
+    var: Var,
+    start: Value,
+    high: Value,
+    number: usize,
+    noted: &mut Places,
+) -> Result<(), NoMemory>
+    requires { AreFormedRows rows.now }
+    ensures { OnOk result (HasNoted rows.now noted.old noted.new (pairs_with var (row_span (slice_get rows.now var) number (start +ℤ pos 1) high))) }
+{
+    if start.0 < high.0 {
+        return note_between(rows, var, Value(start.0 + 1), high, number, noted);
+    }
+    Ok(())
+}
+
+/// Notes the numbers of the reasons of a span, but for those that a known span of its variable holds. What is known then is the
 /// result.
 fn note_rest(
     rows: &[Row],
@@ -72,16 +110,41 @@ fn note_rest(
     ensures known { IfOk result (λ more. IsNotedSpan rows.now span.now.var more number noted.new) }
 {
     let Span { var, low, high, .. } = *span;
-    if known.has_all(low, high) {
-        return Ok(known);
-    }
     if !known.meets(low, high) {
         note_between(rows, var, low, high, number, noted)?;
         return Ok(wider(known, NotedSpan { low, high }));
     }
-    note_between(rows, var, low, known.low, number, noted)?;
-    note_between(rows, var, known.high, high, number, noted)?;
+    note_below(rows, var, low, known.low, number, noted)?;
+    note_behind(rows, var, known.high, high, number, noted)?;
     Ok(known.widened(low, high))
+}
+
+/// Notes the numbers of the reasons of a span, but for those that the known spans of its variable hold. What is known then is the
+/// result.
+fn note_beside(
+    rows: &[Row],
+    span: &Span,
+    number: usize,
+    known: NotedSpans,
+    noted: &mut Places,
+) -> Result<NotedSpans, NoMemory>
+    requires formed { AreFormedRows rows.now }
+    requires known { AreBothNoted rows.now span.now.var known number noted.old }
+    ensures noted { OnOk result (HasNoted rows.now noted.old noted.new (span_pairs rows.now number span.now)) }
+    ensures known { IfOk result (λ more. AreBothNoted rows.now span.now.var more number noted.new) }
+{
+    if known.takes_second(span.low, span.high) {
+        let second = note_rest(rows, span, number, known.second, noted)?;
+        return Ok(NotedSpans {
+            first: known.first,
+            second,
+        });
+    }
+    let first = note_rest(rows, span, number, known.first, noted)?;
+    Ok(NotedSpans {
+        first,
+        second: known.second,
+    })
 }
 
 /// Notes the numbers of the reasons of a span, but for those that the known spans hold.
@@ -89,7 +152,7 @@ fn note_span(
     rows: &[Row],
     span: &Span,
     number: usize,
-    known: &mut Vec<NotedSpan>,
+    known: &mut Vec<NotedSpans>,
     noted: &mut Places,
 ) -> Result<(), NoMemory>
     requires formed { AreFormedRows rows.now }
@@ -97,7 +160,11 @@ fn note_span(
     ensures noted { OnOk result (HasNoted rows.now noted.old noted.new (span_pairs rows.now number span.now)) }
     ensures known { OnOk result (AreNotedSpans rows.now known.new.items number noted.new) }
 {
-    let more = note_rest(rows, span, number, noted_of(known, span.var), noted)?;
+    let own = noted_of(known, span.var);
+    if own.has_all(span.low, span.high) {
+        return Ok(());
+    }
+    let more = note_beside(rows, span, number, own, noted)?;
     set_noted(known, span.var, more);
     Ok(())
 }
@@ -106,7 +173,7 @@ fn note_span(
 fn note_reasons(
     rows: &[Row],
     entry: &Entry,
-    known: &mut Vec<NotedSpan>,
+    known: &mut Vec<NotedSpans>,
     noted: &mut Places,
 ) -> Result<(), NoMemory>
     requires formed { AreFormedRows rows.now }
@@ -147,8 +214,10 @@ pub(crate) fn add_needed(
     note_values(rows, var, values, &mut noted)?;
     let mut known = empty_spans(*visited.allocator(), rows.len())?;
     let mut end = NO_NUMBER;
-    while let Some(number) = noted.last_below(end) {
-        let place = place_of(log, number);
+    let mut word = 0;
+    let mut near = 0;
+    while let Some(number) = noted.last_below(end, &mut word) {
+        let place = place_near(log, number, &mut near);
         visited.push(place)?;
         note_reasons(rows, entry_at(log, place), &mut known, &mut noted)?;
         end = number;
@@ -172,8 +241,10 @@ pub(crate) fn cids_of(
     let mut known = empty_spans(alloc, rows.len())?;
     let mut cids = CidSet::new(alloc);
     let mut end = NO_NUMBER;
-    while let Some(number) = noted.last_below(end) {
-        let entry = entry_at(log, place_of(log, number));
+    let mut word = 0;
+    let mut near = 0;
+    while let Some(number) = noted.last_below(end, &mut word) {
+        let entry = entry_at(log, place_near(log, number, &mut near));
         cids.add(&entry.by)?;
         note_reasons(rows, entry, &mut known, &mut noted)?;
         end = number;

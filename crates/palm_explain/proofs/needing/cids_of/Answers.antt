@@ -29,11 +29,11 @@ loop-number-init c =
 pub entry_at-entry-requires : goal.entry_at-entry-requires
 entry_at-entry-requires c =
     let log = c.args.log.now in
-    let place = c.place_of.result in
+    let place = c.place_near.result in
     let entered = c.requires.entered in
     let i = c.loop-number.invariant.0 in
     let e = walk_here log c.args.rows.now entered.0 entered.1 (pairs_with c.args.var c.args.values.now) c.loop-number.noted c.loop-number.end c.in-Some.number place i.visited
-    i.walked c.in-Some.ensures.some.has c.place_of.ensures in
+    i.walked c.in-Some.ensures.some.has c.place_near.ensures in
     slice_get_within log place e.0 e.1
 
 pub loop-number-preserved : goal.loop-number-preserved
@@ -44,9 +44,9 @@ loop-number-preserved c =
     let l = c.loop-number in
     let i = l.invariant.0 in
     let number = c.in-Some.number in
-    let place = c.place_of.result in
+    let place = c.place_near.result in
     let entered = c.requires.entered in
-    let f = walk_here log rows entered.0 entered.1 pairs l.noted l.end number place i.visited i.walked c.in-Some.ensures.some.has c.place_of.ensures in
+    let f = walk_here log rows entered.0 entered.1 pairs l.noted l.end number place i.visited i.walked c.in-Some.ensures.some.has c.place_near.ensures in
     let e = c.entry_at-entry.result.now in
     let at = c.entry_at-entry.ensures in
     let is = ap (λ (g : Entry). g.number) (some_same e f.0 (sym at ∙ f.1)) ∙ f.2 in (
@@ -66,7 +66,7 @@ note_reasons-requires-clause-known c =
     let i = l.invariant.0 in
     let number = c.in-Some.number in
     let entered = c.requires.entered in
-    let f = walk_here log rows entered.0 entered.1 (pairs_with c.args.var c.args.values.now) l.noted l.end number c.place_of.result i.visited i.walked c.in-Some.ensures.some.has c.place_of.ensures in
+    let f = walk_here log rows entered.0 entered.1 (pairs_with c.args.var c.args.values.now) l.noted l.end number c.place_near.result i.visited i.walked c.in-Some.ensures.some.has c.place_near.ensures in
     let e = c.entry_at-entry.result.now in
     let is : e.number ≡ number = ap (λ (g : Entry). g.number) (some_same e f.0 (sym c.entry_at-entry.ensures ∙ f.1)) ∙ f.2 in
     let below = c.in-Some.ensures.some.below in
