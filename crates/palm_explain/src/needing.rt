@@ -2,7 +2,9 @@
 //! among its reasons is not looked at, however many such removals stand between. A reason is removed before what it is a reason
 //! for, so that none comes up behind the walk.
 ghost use Rattle.std.specs.Prelude.{◌≡◌, ◌↔◌, ℕ, ◌<◌, ◌+ℤ◌, ◌-ℤ◌, pos, [], Some, Contains, length, slice_get, IfOk, OnOk};
+ghost use Rattle.palm_base.specs.declared.terms.Cid.{Cid as CidTerm};
 ghost use Rattle.palm_model.specs.Log.{IsListOf};
+ghost use Rattle.palm_explain.specs.CidSets.{Adds, IsMember};
 ghost use Rattle.palm_explain.specs.Entries.{AreEntered, log_of, pairs_with, row_span, span_pairs, written};
 ghost use Rattle.palm_explain.specs.Explanations.{NamesOfSome};
 ghost use Rattle.palm_explain.specs.Needed.{AreBothNoted, AreNotedSpans, Falls, HasNoted, IsNeededAt, IsNotedSpan};
@@ -225,6 +227,23 @@ pub(crate) fn add_needed(
     Ok(())
 }
 
+/// Adds an id to a set, unless it was added last. A constraint mostly makes several removals in a row.
+#[inline(always)]
+fn add_next(cids: &mut CidSet, cid: &Cid, last: &mut Option<Cid>) -> Result<(), NoMemory>
+    requires { (c : CidTerm) → last.old ≡ Some c → IsMember cids.old c }
+    ensures added { OnOk result (Adds cids.old (λ c. c ≡ cid.now) cids.new) }
+    ensures last { OnOk result ((c : CidTerm) → last.new ≡ Some c → IsMember cids.new c) }
+{
+    if let Some(own) = last {
+        if own.is_same(cid) {
+            return Ok(());
+        }
+    }
+    cids.add(cid)?;
+    *last = Some(*cid);
+    Ok(())
+}
+
 /// The ids of all constraints on which the removals of these values rest, by rising id.
 pub(crate) fn cids_of(
     alloc: Global,
@@ -240,12 +259,13 @@ pub(crate) fn cids_of(
     note_values(rows, var, values, &mut noted)?;
     let mut known = empty_spans(alloc, rows.len())?;
     let mut cids = CidSet::new(alloc);
+    let mut last = None;
     let mut end = NO_NUMBER;
     let mut word = 0;
     let mut near = 0;
     while let Some(number) = noted.last_below(end, &mut word) {
         let entry = entry_at(log, place_near(log, number, &mut near));
-        cids.add(&entry.by)?;
+        add_next(&mut cids, &entry.by, &mut last)?;
         note_reasons(rows, entry, &mut known, &mut noted)?;
         end = number;
     }

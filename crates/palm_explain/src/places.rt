@@ -75,16 +75,15 @@ impl Places {
         ensures stay { (p : ℕ) → HasPlace self.old p → HasPlace self.new p }
         ensures only { (p : ℕ) → HasPlace self.new p → HasPlace self.old p ⊎ IsIn word.now p }
     {
-        let at = guessed(&self.words, self.near, word.start);
+        let at = self.near;
         if starts_at(&self.words, at, word.start) {
-            self.near = at;
             join_bits(&mut self.words, at, word.bits);
             return Ok(());
         }
         self.add_far(word)
     }
 
-    /// Adds the places of a word that does not stand where it was guessed.
+    /// Adds the places of a word that is not the one that was looked for last.
     #[inline(never)]
     fn add_far(&mut self, word: &PlaceWord) -> Result<(), NoMemory>
         requires { word.now.start % 64 ≡ 0 }
@@ -92,7 +91,7 @@ impl Places {
         ensures stay { (p : ℕ) → HasPlace self.old p → HasPlace self.new p }
         ensures only { (p : ℕ) → HasPlace self.new p → HasPlace self.old p ⊎ IsIn word.now p }
     {
-        let at = index_of(&self.words, word.start);
+        let at = index_near(&self.words, self.near, word.start);
         self.near = at;
         if starts_at(&self.words, at, word.start) {
             join_bits(&mut self.words, at, word.bits);

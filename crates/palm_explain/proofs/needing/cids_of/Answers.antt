@@ -1,4 +1,5 @@
-use Rattle.std.proofs.Common.{◌≡◌, ◌∙◌, arith, [], ◌∷◌, ◌++◌, sym, ap, subst}
+use Rattle.std.proofs.Common.{◌≡◌, ◌∙◌, arith, [], ◌∷◌, ◌++◌, sym, ap, subst, None, Some}
+use Rattle.palm_base.specs.declared.terms.Cid.{Cid}
 use Rattle.std.proofs.lemmas.Option.{slice_get_within}
 use Rattle.palm_explain.specs.declared.entry.Entry.{Entry}
 use Rattle.palm_explain.specs.declared.rows.TheConstants.{NO_NUMBER}
@@ -10,6 +11,9 @@ use Rattle.palm_explain.proofs.NotedSpans.{spans_empty, spans_lower}
 use Rattle.palm_explain.proofs.Reasons.{map_place, some_same}
 use Rattle.palm_explain.proofs.Stores.{if_ok}
 use Rattle.palm_explain.proofs.needing.cids_of.Goals as goal
+
+none_some : (d : Cid) → None ≡ Some d → ⊥
+none_some d e = cc
 
 pub loop-number-init : goal.loop-number-init
 loop-number-init c =
@@ -24,6 +28,7 @@ loop-number-init c =
         made = makers_none (log_of rows log) (IsMember c.new-cids.result) c.new-cids.ensures;
       },
       spans_empty rows c.in_ok-known.known.items NO_NUMBER noted c.in_ok-known.ensures,
+      λ d is. absurd (none_some d is),
     )
 
 pub entry_at-entry-requires : goal.entry_at-entry-requires
@@ -53,9 +58,10 @@ loop-number-preserved c =
       record {
         visited = i.visited ++ place ∷ [];
         walked = walk_next log rows entered.0 entered.1 pairs l.noted c.note_reasons.new.noted l.end number place e i.visited i.walked c.in-Some.ensures.some at is c.in_ok-note_reasons.ensures.noted;
-        made = makers_more (log_of rows log) i.visited place (removal_of rows e) (IsMember l.cids) (IsMember c.add.new.self) (map_place (removal_of rows) log place e at) i.made c.in_ok-add.ensures;
+        made = makers_more (log_of rows log) i.visited place (removal_of rows e) (IsMember l.cids) (IsMember c.add_next.new.cids) (map_place (removal_of rows) log place e at) i.made c.in_ok-add_next.ensures.added;
       },
       subst (λ n. AreNotedSpans rows c.note_reasons.new.known.items n c.note_reasons.new.noted) is c.in_ok-note_reasons.ensures.known,
+      c.in_ok-add_next.ensures.last,
     )
 
 pub note_reasons-requires-clause-known : goal.note_reasons-requires-clause-known
