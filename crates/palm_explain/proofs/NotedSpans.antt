@@ -1,5 +1,5 @@
 -- Spans of what is noted: what they hold at the start of a walk, at its next removal, and past one more span of reasons.
-use Rattle.std.proofs.Common.{int_le, Contains, ◌≡◌, ◌≢◌, ℕ, ℤ, ◌≤◌, ◌≤ℤ◌, ◌<ℤ◌, ◌+ℤ◌, ◌-ℤ◌, pos, List, Some, slice_get, ◌⊎◌, inl, inr, sym, ap, ◌∙◌, subst, arith}
+use Rattle.std.proofs.Common.{int_le, Contains, ◌≡◌, ◌≢◌, ℕ, ℤ, ◌≤◌, ◌≤ℤ◌, ◌<ℤ◌, List, Some, slice_get, ◌⊎◌, inl, inr, sym, ap, ◌∙◌, subst, arith}
 use Rattle.std.proofs.lemmas.Bool.{cases_Bool, cases_eq}
 use Rattle.std.proofs.lemmas.Int.{ints}
 use Rattle.palm_base.specs.declared.terms.Pair.{Pair}
@@ -11,7 +11,7 @@ use Rattle.palm_explain.specs.declared.rows.Row.{Row}
 use Rattle.palm_explain.specs.declared.rows.TheConstants.{NO_NUMBER}
 use Rattle.palm_explain.specs.declared.spans.Span.{Span}
 use Rattle.palm_explain.specs.Entries.{span_pairs, span_values}
-use Rattle.palm_explain.specs.Needed.{AreBothEmpty, AreBothNoted, AreEmptySpans, AreNotedSpans, HasAll, HasNoted, IsNotedSpan}
+use Rattle.palm_explain.specs.Needed.{AreBothEmpty, AreBothNoted, AreEmptySpans, AreNotedSpans, HasAll, HasNoted, IsNotedSpan, turned}
 use Rattle.palm_explain.specs.Places.{HasPlace}
 use Rattle.palm_explain.specs.Rows.{number_at}
 use Rattle.palm_explain.proofs.Reasons.{some_same, span_value, value_span}
@@ -45,6 +45,13 @@ spans_set rows spans more x s n old new are stay is own others y t at = elim (ca
       let same : t ≡ s = own t (ap (slice_get more) (sym e) ∙ at) in subst (λ z. AreBothNoted rows z t n new) (sym e) (subst (λ (u : NotedSpans). AreBothNoted rows x u n new) (sym same) is)
   | inr apart ↦
       let both = are y t (sym (others y apart) ∙ at) in (span_stays rows y t.first n old new stay both.0, span_stays rows y t.second n old new stay both.1)
+]
+
+-- the other way round
+pub turned_noted : (rows : List Row) (x : ℕ) (s t : NotedSpans) (n : ℕ) (noted : List PlaceWord) → AreBothNoted rows x s n noted → (t ≡ s) ⊎ (t ≡ turned s) → AreBothNoted rows x t n noted
+turned_noted rows x s t n noted are is = elim is [
+  | inl e ↦ subst (λ (u : NotedSpans). AreBothNoted rows x u n noted) (sym e) are
+  | inr e ↦ subst (λ (u : NotedSpans). AreBothNoted rows x u n noted) (sym e) (are.1, are.0)
 ]
 
 -- ---- one span
@@ -110,14 +117,15 @@ module _ (rows : List Row) (s : Span) (n : ℕ) where
       (value_span rows n s v.0 (record { from = omega (arith, ints, from, lower); to = omega (arith, ints, to, upper); number = is.number; stands = is.stands; before = is.before })))
 
   -- those below and above a span that is known are noted now
-  module _ (known wide : NotedSpan) (old middle new : List PlaceWord) (below : HasNoted rows old middle (span_pairs rows n (part s.low (known.low -ℤ pos 1)))) (above : HasNoted rows middle new (span_pairs rows n (part (known.high +ℤ pos 1) s.high))) where
+  module _ (known wide : NotedSpan) (under over : ℤ) (unders : (under ≤ℤ known.low) × ((v : ℤ) → v <ℤ known.low → v ≤ℤ under)) (overs : (known.high ≤ℤ over) × ((v : ℤ) → known.high <ℤ v → over ≤ℤ v)) (old middle new : List PlaceWord)
+      (below : HasNoted rows old middle (span_pairs rows n (part s.low under))) (above : HasNoted rows middle new (span_pairs rows n (part over s.high))) where
     pub widened_noted : n ≤ NO_NUMBER → IsNotedSpan rows s.var known n old → (s.low ≤ℤ wide.low) ⊎ (known.low ≤ℤ wide.low) → (wide.high ≤ℤ s.high) ⊎ (wide.high ≤ℤ known.high) → IsNotedSpan rows s.var wide n new
     widened_noted most are lows highs v k low high is lt = elim (cases_Bool (int_le known.low v)) [
       | inl from ↦ elim (cases_Bool (int_le v known.high)) [
         | inl to ↦ above.stay k (below.stay k (are v k (omega (arith, ints, from)) (omega (arith, ints, to)) is lt))
-        | inr up ↦ all_noted rows (part (known.high +ℤ pos 1) s.high) n middle new most above v k (omega (arith, ints, up)) (elim highs [ inl le ↦ omega (arith, ints, le, high) | inr le ↦ absurd (omega (arith, ints, le, high, up)) ]) is lt
+        | inr up ↦ all_noted rows (part over s.high) n middle new most above v k (overs.1 v (omega (arith, ints, up))) (elim highs [ inl le ↦ omega (arith, ints, le, high) | inr le ↦ absurd (omega (arith, ints, le, high, up)) ]) is lt
       ]
-      | inr down ↦ above.stay k (all_noted rows (part s.low (known.low -ℤ pos 1)) n old middle most below v k (elim lows [ inl le ↦ omega (arith, ints, le, low) | inr le ↦ absurd (omega (arith, ints, le, low, down)) ]) (omega (arith, ints, down)) is lt)
+      | inr down ↦ above.stay k (all_noted rows (part s.low under) n old middle most below v k (elim lows [ inl le ↦ omega (arith, ints, le, low) | inr le ↦ absurd (omega (arith, ints, le, low, down)) ]) (unders.1 v (omega (arith, ints, down))) is lt)
     ]
 
     pub rest_noted : known.low ≤ℤ s.high → s.low ≤ℤ known.high → IsNotedSpan rows s.var wide n new → wide.low ≤ℤ s.low → s.high ≤ℤ wide.high → HasNoted rows old new (span_pairs rows n s)
@@ -127,8 +135,8 @@ module _ (rows : List Row) (s : Span) (n : ℕ) where
       only = λ k h. elim (above.only k h) [
         | inl o ↦ elim (below.only k o) [
           | inl was ↦ inl was
-          | inr f ↦ inr (f.0, part_reason s.low (known.low -ℤ pos 1) (omega (arith, ints)) (omega (arith, ints, lows)) f.0 f.1, f.2)
+          | inr f ↦ (let less = unders.0 in inr (f.0, part_reason s.low under (omega (arith, ints)) (omega (arith, ints, lows, less)) f.0 f.1, f.2))
         ]
-        | inr f ↦ inr (f.0, part_reason (known.high +ℤ pos 1) s.high (omega (arith, ints, highs)) (omega (arith, ints)) f.0 f.1, f.2)
+        | inr f ↦ (let more = overs.0 in inr (f.0, part_reason over s.high (omega (arith, ints, highs, more)) (omega (arith, ints)) f.0 f.1, f.2))
       ];
     }

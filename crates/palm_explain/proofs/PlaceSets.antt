@@ -13,7 +13,7 @@ use Rattle.palm_base.specs.Tells.{Tells}
 use Rattle.palm_base.proofs.cited.Members.{member_nil, member_take}
 use Rattle.palm_base.proofs.cited.Telling.{tells_both, tells_false, tells_same}
 use Rattle.palm_explain.specs.declared.places.PlaceWord.{PlaceWord}
-use Rattle.palm_explain.specs.Places.{AllBegin, ArePlaceWords, BeginsBelow, HasPlace, IsIn, IsLastBelow, IsLastIn, IsMissing, IsSearched, with_bits}
+use Rattle.palm_explain.specs.Places.{AllBegin, ArePlaceWords, BeginsBelow, HasPlace, IsGapAt, IsIn, IsLastBelow, IsLastIn, IsMissing, IsSearched, with_bits}
 
 -- ---- the bits of a word
 
@@ -267,22 +267,26 @@ module _ (words : List PlaceWord) (formed : ArePlaceWords words) (at : ℕ) (own
 
 -- ---- a word behind the others
 
+pub parted_end : (words : List PlaceWord) (start : ℕ) → AllBegin words start → IsPartedAt (λ w. nat_lt start w.start) words (length words)
+parted_end words start all = record {
+  within = omega arith;
+  before = λ k d ge lt. lt-ltb start (get_or words k d).start (all k d lt);
+  after = λ k d ge lt. absurd (omega (arith, ge, lt));
+}
+
+-- a gap behind all of them
+pub gap_behind : (words : List PlaceWord) (start at : ℕ) → IsGapAt words start at → length words ≤ at → AllBegin words start
+gap_behind words start at gap end k d lt = ltb-true start (get_or words k d).start (gap.parted.before k d (omega arith) (omega (arith, lt, end)))
+
 module _ (words : List PlaceWord) (formed : ArePlaceWords words) (own : PlaceWord) (aligned : own.start % 64 ≡ 0) (all : AllBegin words own.start) where
   end_parted : IsPartedAt (λ w. nat_lt own.start w.start) words (length words)
-  end_parted = record {
-    within = omega arith;
-    before = λ k d ge lt. lt-ltb own.start (get_or words k d).start (all k d lt);
-    after = λ k d ge lt. absurd (omega (arith, ge, lt));
-  }
+  end_parted = parted_end words own.start all
 
   end_none : length words < length words → ((d : PlaceWord) → (get_or words (length words) d).start ≡ own.start) → ⊥
   end_none lt same = omega (arith, lt)
 
   pub push_formed : ArePlaceWords (words ++ own ∷ [])
   push_formed = subst ArePlaceWords (insert_end words own) (insert_formed words formed (length words) own aligned end_parted end_none)
-
-  pub push_there : (p : ℕ) → IsIn own p → HasPlace (words ++ own ∷ []) p
-  push_there p is = subst (λ (ws : List PlaceWord). HasPlace ws p) (insert_end words own) (insert_there words formed (length words) own aligned end_parted end_none p is)
 
   pub push_stay : (p : ℕ) → HasPlace words p → HasPlace (words ++ own ∷ []) p
   push_stay p h = subst (λ (ws : List PlaceWord). HasPlace ws p) (insert_end words own) (insert_stay words formed (length words) own aligned end_parted end_none p h)
@@ -306,6 +310,14 @@ pub record IsReached (first words : List PlaceWord) (start : ℕ) : Type 0 where
 
 pub reached_none : (words : List PlaceWord) (start : ℕ) → ArePlaceWords words → AllBegin words start → IsReached words words start
 reached_none words start formed behind = record { formed = formed; behind = behind; same = λ p. (λ h. h, λ h. h) }
+
+pub gap_reached : (first words : List PlaceWord) (start : ℕ) → start % 64 ≡ 0 → IsReached first words start → IsGapAt words start (length words)
+gap_reached first words start aligned reached = record {
+  formed = reached.formed;
+  aligned = aligned;
+  parted = parted_end words start reached.behind;
+  apart = λ lt same. omega (arith, lt);
+}
 
 abbrev pub empty_word : ℕ → PlaceWord
 empty_word start = record { start = start; bits = 0 }

@@ -68,6 +68,10 @@ HasAll s low high = (s.low ≤ℤ low) × (high ≤ℤ s.high)
 abbrev pub AreBothEmpty : NotedSpans → Type 0
 AreBothEmpty s = (s.first.high <ℤ s.first.low) × (s.second.high <ℤ s.second.low)
 
+-- the other way round
+abbrev pub turned : NotedSpans → NotedSpans
+turned s = record { first = s.second; second = s.first }
+
 -- none of them has a value
 abbrev pub AreEmptySpans : List NotedSpans → Type 0
 AreEmptySpans spans = (x : ℕ) (s : NotedSpans) → slice_get spans x ≡ Some s → AreBothEmpty s

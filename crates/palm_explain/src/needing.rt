@@ -1,13 +1,13 @@
 //! Which removals the removals of values rest on: a walk down the log from one needed removal to the next. What no needed removal has
 //! among its reasons is not looked at, however many such removals stand between. A reason is removed before what it is a reason
 //! for, so that none comes up behind the walk.
-ghost use Rattle.std.specs.Prelude.{◌≡◌, ◌↔◌, ℕ, ◌<◌, ◌+ℤ◌, ◌-ℤ◌, pos, [], Some, Contains, length, slice_get, IfOk, OnOk};
+ghost use Rattle.std.specs.Prelude.{◌≡◌, ◌↔◌, ℕ, ◌<◌, [], Some, Contains, length, slice_get, IfOk, OnOk};
 ghost use Rattle.palm_base.specs.declared.terms.Cid.{Cid as CidTerm};
 ghost use Rattle.palm_model.specs.Log.{IsListOf};
 ghost use Rattle.palm_explain.specs.CidSets.{Adds, IsMember};
 ghost use Rattle.palm_explain.specs.Entries.{AreEntered, log_of, pairs_with, row_span, span_pairs, written};
 ghost use Rattle.palm_explain.specs.Explanations.{NamesOfSome};
-ghost use Rattle.palm_explain.specs.Needed.{AreBothNoted, AreNotedSpans, Falls, HasNoted, IsNeededAt, IsNotedSpan};
+ghost use Rattle.palm_explain.specs.Needed.{AreNotedSpans, Falls, HasNoted, IsNeededAt, IsNotedSpan};
 ghost use Rattle.palm_explain.specs.Rows.{AreFormedRows};
 
 use crate::cid_set::CidSet;
@@ -48,6 +48,9 @@ fn note_between(
     requires { AreFormedRows rows.now }
     ensures { OnOk result (HasNoted rows.now noted.old noted.new (pairs_with var (row_span (slice_get rows.now var) number low high))) }
 {
+    if high.0 < low.0 {
+        return Ok(());
+    }
     let Some(row) = row_at(rows, var) else {
         return Ok(());
     };
@@ -55,44 +58,6 @@ fn note_between(
     while let Some(next) = row.next_before(place, high, number) {
         noted.add(row.numbered(next).1)?;
         place = next + 1;
-    }
-    Ok(())
-}
-
-/// Notes the numbers of those values of a variable from `low` on, but below `end`, that were removed before the number.
-#[inline(always)]
-fn note_below(
-    rows: &[Row],
-    var: Var,
-    low: Value,
-    end: Value,
-    number: usize,
-    noted: &mut Places,
-) -> Result<(), NoMemory>
-    requires { AreFormedRows rows.now }
-    ensures { OnOk result (HasNoted rows.now noted.old noted.new (pairs_with var (row_span (slice_get rows.now var) number low (end -ℤ pos 1)))) }
-{
-    if low.0 < end.0 {
-        return note_between(rows, var, low, Value(end.0 - 1), number, noted);
-    }
-    Ok(())
-}
-
-/// Notes the numbers of those values of a variable behind `start`, up to `high`, that were removed before the number.
-#[inline(always)]
-fn note_behind(
-    rows: &[Row],
-    var: Var,
-    start: Value,
-    high: Value,
-    number: usize,
-    noted: &mut Places,
-) -> Result<(), NoMemory>
-    requires { AreFormedRows rows.now }
-    ensures { OnOk result (HasNoted rows.now noted.old noted.new (pairs_with var (row_span (slice_get rows.now var) number (start +ℤ pos 1) high))) }
-{
-    if start.0 < high.0 {
-        return note_between(rows, var, Value(start.0 + 1), high, number, noted);
     }
     Ok(())
 }
@@ -116,37 +81,9 @@ fn note_rest(
         note_between(rows, var, low, high, number, noted)?;
         return Ok(wider(known, NotedSpan { low, high }));
     }
-    note_below(rows, var, low, known.low, number, noted)?;
-    note_behind(rows, var, known.high, high, number, noted)?;
+    note_between(rows, var, low, known.below(), number, noted)?;
+    note_between(rows, var, known.behind(), high, number, noted)?;
     Ok(known.widened(low, high))
-}
-
-/// Notes the numbers of the reasons of a span, but for those that the known spans of its variable hold. What is known then is the
-/// result.
-fn note_beside(
-    rows: &[Row],
-    span: &Span,
-    number: usize,
-    known: NotedSpans,
-    noted: &mut Places,
-) -> Result<NotedSpans, NoMemory>
-    requires formed { AreFormedRows rows.now }
-    requires known { AreBothNoted rows.now span.now.var known number noted.old }
-    ensures noted { OnOk result (HasNoted rows.now noted.old noted.new (span_pairs rows.now number span.now)) }
-    ensures known { IfOk result (λ more. AreBothNoted rows.now span.now.var more number noted.new) }
-{
-    if known.takes_second(span.low, span.high) {
-        let second = note_rest(rows, span, number, known.second, noted)?;
-        return Ok(NotedSpans {
-            first: known.first,
-            second,
-        });
-    }
-    let first = note_rest(rows, span, number, known.first, noted)?;
-    Ok(NotedSpans {
-        first,
-        second: known.second,
-    })
 }
 
 /// Notes the numbers of the reasons of a span, but for those that the known spans hold.
@@ -166,8 +103,10 @@ fn note_span(
     if own.has_all(span.low, span.high) {
         return Ok(());
     }
-    let more = note_beside(rows, span, number, own, noted)?;
-    set_noted(known, span.var, more);
+    let spans = own.turned(span.low, span.high);
+    let first = note_rest(rows, span, number, spans.first, noted)?;
+    let second = spans.second;
+    set_noted(known, span.var, NotedSpans { first, second });
     Ok(())
 }
 

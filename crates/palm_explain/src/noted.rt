@@ -1,6 +1,6 @@
 //! What a walk down the log has noted already: of each variable two spans of values, so that a reason is mostly noted once.
-ghost use Rattle.std.specs.Prelude.{◌≡◌, ◌≢◌, ◌⊎◌, ℕ, ◌-ℤ◌, ◌<ℤ◌, ◌≤ℤ◌, true, Some, slice_get, IfOk};
-ghost use Rattle.palm_explain.specs.Needed.{AreBothEmpty, AreEmptySpans, HasAll};
+ghost use Rattle.std.specs.Prelude.{◌≡◌, ◌≢◌, ◌⊎◌, ℕ, ℤ, ◌-ℤ◌, ◌<ℤ◌, ◌≤ℤ◌, true, Some, slice_get, IfOk};
+ghost use Rattle.palm_explain.specs.Needed.{AreBothEmpty, AreEmptySpans, HasAll, turned};
 ghost use Rattle.palm_explain.specs.declared.noted.NotedSpans.{NotedSpans as NotedSpansTerm};
 
 use palm_base::{NoMemory, Value, Var};
@@ -46,6 +46,30 @@ impl NotedSpan {
         ensures { result ≡ true → (self.now.low ≤ℤ high) × (low ≤ℤ self.now.high) }
     {
         self.low.0 <= high.0 && low.0 <= self.high.0
+    }
+
+    /// The value below its low, or that where there is none.
+    #[inline(always)]
+    pub(crate) fn below(&self) -> Value
+        ensures { (result ≤ℤ self.now.low) × ((v : ℤ) → v <ℤ self.now.low → v ≤ℤ result) }
+    {
+        if self.low.0 == i32::MIN {
+            self.low
+        } else {
+            Value(self.low.0 - 1)
+        }
+    }
+
+    /// The value behind its high, or that where there is none.
+    #[inline(always)]
+    pub(crate) fn behind(&self) -> Value
+        ensures { (self.now.high ≤ℤ result) × ((v : ℤ) → self.now.high <ℤ v → result ≤ℤ v) }
+    {
+        if self.high.0 == i32::MAX {
+            self.high
+        } else {
+            Value(self.high.0 + 1)
+        }
     }
 
     /// The span from the less of its low and `low` to the greater of its high and `high`.
@@ -114,9 +138,24 @@ impl NotedSpans {
     }
 
     /// Whether the second span takes the values from `low` to `high`: it meets them, or the first does not, and is the wider one.
-    pub(crate) fn takes_second(&self, low: Value, high: Value) -> bool {
+    #[inline(always)]
+    fn takes_second(&self, low: Value, high: Value) -> bool {
         self.second.meets(low, high)
             || (!self.first.meets(low, high) && self.second.width() < self.first.width())
+    }
+
+    /// The spans, with that first that takes the values from `low` to `high`.
+    pub(crate) fn turned(&self, low: Value, high: Value) -> NotedSpans
+        ensures { (result ≡ self.now) ⊎ (result ≡ turned self.now) }
+    {
+        if self.takes_second(low, high) {
+            NotedSpans {
+                first: self.second,
+                second: self.first,
+            }
+        } else {
+            *self
+        }
     }
 }
 

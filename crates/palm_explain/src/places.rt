@@ -1,10 +1,10 @@
 //! Sets of places, of few of many: a word for 64 places that stand together, where one of them is in the set. A walk down the log
 //! keeps the numbers of removals so, and a set of ids the variables of decisions and the numbers of users.
-ghost use Rattle.std.specs.Prelude.{◌≡◌, ◌⊎◌, ◌↔◌, ℕ, ◌%◌, ◌<◌, ◌≤◌, true, [], length, nat_le, nat_lt, slice_index_or, slice_set, IfNone, IfSome, OnOk};
+ghost use Rattle.std.specs.Prelude.{◌≡◌, ◌⊎◌, ℕ, ◌%◌, ◌<◌, ◌≤◌, true, [], length, nat_le, nat_lt, slice_index_or, slice_set, IfNone, IfOk, IfSome, OnOk};
 ghost use Rattle.std.specs.Int.{bit_at};
 ghost use Rattle.palm_base.specs.Order.{IsPartedAt};
 ghost use Rattle.palm_base.specs.Tells.{Tells};
-ghost use Rattle.palm_explain.specs.Places.{AllBegin, ArePlaceWords, BeginsBelow, HasPlace, IsIn, IsLastBelow, IsLastIn, IsMissing, with_bits};
+ghost use Rattle.palm_explain.specs.Places.{ArePlaceWords, BeginsBelow, HasPlace, HasSame, IsGapAt, IsIn, IsLastBelow, IsLastIn, IsMissing, with_bits};
 ghost use Rattle.palm_explain.specs.declared.places.PlaceWord.{PlaceWord as PlaceWordTerm};
 
 use palm_base::NoMemory;
@@ -75,29 +75,16 @@ impl Places {
         ensures stay { (p : ℕ) → HasPlace self.old p → HasPlace self.new p }
         ensures only { (p : ℕ) → HasPlace self.new p → HasPlace self.old p ⊎ IsIn word.now p }
     {
-        let at = self.near;
-        if starts_at(&self.words, at, word.start) {
-            join_bits(&mut self.words, at, word.bits);
-            return Ok(());
-        }
-        self.add_far(word)
-    }
-
-    /// Adds the places of a word that is not the one that was looked for last.
-    #[inline(never)]
-    fn add_far(&mut self, word: &PlaceWord) -> Result<(), NoMemory>
-        requires { word.now.start % 64 ≡ 0 }
-        ensures there { OnOk result ((p : ℕ) → IsIn word.now p → HasPlace self.new p) }
-        ensures stay { (p : ℕ) → HasPlace self.old p → HasPlace self.new p }
-        ensures only { (p : ℕ) → HasPlace self.new p → HasPlace self.old p ⊎ IsIn word.now p }
-    {
         let at = index_near(&self.words, self.near, word.start);
         self.near = at;
         if starts_at(&self.words, at, word.start) {
             join_bits(&mut self.words, at, word.bits);
             return Ok(());
         }
-        put_in(&mut self.words, at, word)
+        let gap = reach(&mut self.words, at, word.start)?;
+        self.near = gap;
+        self.words.insert(gap, *word)?;
+        Ok(())
     }
 
     /// Adds the places of another set, a word at a time.
@@ -151,15 +138,6 @@ fn starts_at(words: &[PlaceWord], index: usize, start: usize) -> bool
     }
 }
 
-/// How many of the words begin behind this place, found by halves.
-#[inline(never)]
-fn index_of(words: &[PlaceWord], start: usize) -> usize
-    requires { ArePlaceWords words.now }
-    ensures { IsPartedAt (λ w. nat_lt start w.start) words.now result }
-{
-    words.partition_point(|word| start < word.start)
-}
-
 /// The index of the word that begins at this place if no word is missing between it and the one at `near`.
 #[inline(always)]
 fn guessed(words: &[PlaceWord], near: usize, start: usize) -> usize {
@@ -182,40 +160,7 @@ fn index_near(words: &[PlaceWord], near: usize, start: usize) -> usize
     if starts_at(words, guess, start) {
         return guess;
     }
-    index_of(words, start)
-}
-
-/// Puts a word in at its index, behind all that begin behind it. Without memory no place is added.
-fn put_in(words: &mut Vec<PlaceWord>, at: usize, word: &PlaceWord) -> Result<(), NoMemory>
-    requires aligned { word.now.start % 64 ≡ 0 }
-    requires formed { ArePlaceWords words.old.items }
-    requires behind { IsPartedAt (λ w. nat_lt word.now.start w.start) words.old.items at }
-    requires apart { at < length words.old.items → ((d : PlaceWordTerm) → (slice_index_or words.old.items at d).start ≡ word.now.start) → ⊥ }
-    ensures formed { ArePlaceWords words.new.items }
-    ensures there { OnOk result ((p : ℕ) → IsIn word.now p → HasPlace words.new.items p) }
-    ensures stay { (p : ℕ) → HasPlace words.old.items p → HasPlace words.new.items p }
-    ensures only { (p : ℕ) → HasPlace words.new.items p → HasPlace words.old.items p ⊎ IsIn word.now p }
-{
-    if at < words.len() {
-        words.insert(at, *word)?;
-        return Ok(());
-    }
-    put_last(words, word)
-}
-
-/// Adds a word behind the others, all of which begin behind it. Without memory no place is added.
-fn put_last(words: &mut Vec<PlaceWord>, word: &PlaceWord) -> Result<(), NoMemory>
-    requires aligned { word.now.start % 64 ≡ 0 }
-    requires formed { ArePlaceWords words.old.items }
-    requires behind { AllBegin words.old.items word.now.start }
-    ensures formed { ArePlaceWords words.new.items }
-    ensures there { OnOk result ((p : ℕ) → IsIn word.now p → HasPlace words.new.items p) }
-    ensures stay { (p : ℕ) → HasPlace words.old.items p → HasPlace words.new.items p }
-    ensures only { (p : ℕ) → HasPlace words.new.items p → HasPlace words.old.items p ⊎ IsIn word.now p }
-{
-    reach(words, word.start)?;
-    words.push(*word)?;
-    Ok(())
+    words.partition_point(|word| start < word.start)
 }
 
 /// Where the next word begins, if the last one begins behind `start`, and few words but some are missing between.
@@ -236,31 +181,23 @@ fn next_missing(words: &[PlaceWord], start: usize) -> Option<usize>
     Some(last - 64)
 }
 
-/// Adds words of no place behind the others, until the next one would begin at `start`. Where many are missing, it adds none.
-fn reach(words: &mut Vec<PlaceWord>, start: usize) -> Result<(), NoMemory>
-    requires aligned { start % 64 ≡ 0 }
-    requires formed { ArePlaceWords words.old.items }
-    requires behind { AllBegin words.old.items start }
-    ensures formed { ArePlaceWords words.new.items }
-    ensures behind { AllBegin words.new.items start }
-    ensures same { (p : ℕ) → HasPlace words.new.items p ↔ HasPlace words.old.items p }
+/// Where a word belongs that begins at `start` and is missing at an index. If that is behind the others, words of no place are put
+/// between, but not where many are missing.
+fn reach(words: &mut Vec<PlaceWord>, at: usize, start: usize) -> Result<usize, NoMemory>
+    requires { IsGapAt words.old.items start at }
+    ensures gap { IfOk result (IsGapAt words.new.items start) }
+    ensures same { HasSame words.old.items words.new.items }
 {
+    if at < words.len() {
+        return Ok(at);
+    }
     while let Some(next) = next_missing(words, start) {
         words.push(PlaceWord {
             start: next,
             bits: 0,
         })?;
     }
-    Ok(())
-}
-
-/// How many of the words begin at this place or behind it, found by halves.
-#[inline(never)]
-fn index_from(words: &[PlaceWord], end: usize) -> usize
-    requires { ArePlaceWords words.now }
-    ensures { IsPartedAt (λ w. nat_le end w.start) words.now result }
-{
-    words.partition_point(|word| end <= word.start)
+    Ok(words.len())
 }
 
 /// Whether the word at an index is the first one that begins below this place.
@@ -283,7 +220,7 @@ fn index_below(words: &[PlaceWord], near: usize, end: usize) -> usize
     if begins_below(words, near, end) {
         return near;
     }
-    index_from(words, end)
+    words.partition_point(|word| end <= word.start)
 }
 
 /// Makes each of these bits of the word at an index a one.

@@ -16,18 +16,18 @@ returns-then-not-meets-clause-known c =
           (all_noted rows s c.args.number c.args.noted.now noted (let fits = c.ranges.number.fits in omega (arith, fits)) new)
     ]
 
-widened : (c : goal.After-widened) → IsNotedSpan c.args.rows.now c.args.span.now.var c.widened.result c.args.number c.note_behind.new.noted
+widened : (c : goal.After-widened) → IsNotedSpan c.args.rows.now c.args.span.now.var c.widened.result c.args.number c.note_between-3.new.noted
 widened c =
     let wide = c.widened.ensures in
-    widened_noted c.args.rows.now c.args.span.now c.args.number c.args.known c.widened.result c.args.noted.now c.note_below.new.noted c.note_behind.new.noted
-    c.in_ok-note_below.ensures c.in_ok-note_behind.ensures (let fits = c.ranges.number.fits in omega (arith, fits)) c.requires.known wide.low.1 wide.high.1
+    widened_noted c.args.rows.now c.args.span.now c.args.number c.args.known c.widened.result c.below.result c.behind.result c.below.ensures c.behind.ensures c.args.noted.now c.note_between-2.new.noted c.note_between-3.new.noted
+    c.in_ok-note_between-2.ensures c.in_ok-note_between-3.ensures (let fits = c.ranges.number.fits in omega (arith, fits)) c.requires.known wide.low.1 wide.high.1
 
 pub returns-clause-noted : goal.returns-clause-noted
 returns-clause-noted c =
     let wide = c.widened.ensures in
     let meets = c.meets.ensures c.if-not-meets.false in
-    rest_noted c.args.rows.now c.args.span.now c.args.number c.args.known c.widened.result c.args.noted.now c.note_below.new.noted c.note_behind.new.noted
-    c.in_ok-note_below.ensures c.in_ok-note_behind.ensures meets.0 meets.1 (widened c) wide.low.0 wide.high.0
+    rest_noted c.args.rows.now c.args.span.now c.args.number c.args.known c.widened.result c.below.result c.behind.result c.below.ensures c.behind.ensures c.args.noted.now c.note_between-2.new.noted c.note_between-3.new.noted
+    c.in_ok-note_between-2.ensures c.in_ok-note_between-3.ensures meets.0 meets.1 (widened c) wide.low.0 wide.high.0
 
 pub returns-clause-known : goal.returns-clause-known
 returns-clause-known c = widened c
