@@ -1,5 +1,6 @@
-//! Sets of places, of few of many: a word for 64 places that stand together, where one of them is in the set. A walk down the log
-//! keeps the numbers of removals so, and a set of ids the variables of decisions and the numbers of users.
+//! Sets of places, of few of many: a word for 64 places that stand together, where one of them is in the set, and words of no place
+//! where few would be missing between two. A walk down the log keeps the numbers of removals so, and a set of ids the variables of
+//! decisions and the numbers of users.
 ghost use Rattle.std.specs.Prelude.{◌≡◌, ◌⊎◌, ℕ, ◌%◌, ◌<◌, ◌≤◌, true, [], length, nat_le, nat_lt, slice_index_or, slice_set, IfNone, IfOk, IfSome, OnOk};
 ghost use Rattle.std.specs.Int.{bit_at};
 ghost use Rattle.palm_base.specs.Order.{IsPartedAt};
@@ -11,7 +12,7 @@ use palm_base::NoMemory;
 use std::alloc::{AllocError, Global};
 use std::marker::Model;
 
-/// How far behind one another two words may begin between which words of no place are put, so that none is missing.
+/// How far behind one another two words may begin, if words of no place are to be put between.
 const GAP: usize = 16 * 64;
 
 /// Which of 64 places that stand together are in a set.
