@@ -232,3 +232,7 @@ kept_both ids other decisions negations kept more only rises negated =
 pub tells_listed : (cids : List Cid) (cid : Cid) (r : Result ℕ ℕ) → MatchResult r (λ place. StandsAt (λ c. c) cids place cid) (λ place. BelongsAt (λ c. c) cids place cid) → (b : Bool) → b ≡ is_ok r → Tells b (Contains cids cid)
 tells_listed cids cid (Ok place) at b is = subst (λ t. Tells t (Contains cids cid)) (sym is) (member_get cids place cid (stands_cid cids place cid at))
 tells_listed cids cid (Err place) belongs b is = subst (λ t. Tells t (Contains cids cid)) (sym is) (λ m. belongs.absent cid m refl)
+
+-- one that is there already
+pub added_there : (ids : CidMembers) (cid : Cid) → IsMember ids cid → IsJoined (IsMember ids) (λ c. c ≡ cid) (IsMember ids)
+added_there ids cid there = record { sound = λ c m. inl m; first = λ c m. m; second = λ c e. subst (IsMember ids) (sym e) there }

@@ -1,19 +1,19 @@
 -- Sets of places by words of 64: bits of a word, and what a new place and a search for the last one make of the words.
-use Rattle.std.proofs.Common.{◌≡◌, ℕ, suc, [], ◌∷◌, ◌++◌, take, ◌+◌, ◌-◌, ◌*◌, ◌/◌, ◌%◌, ◌^◌, ◌<◌, ◌≤◌, List, length, get_or, set, insert, Contains, bit_or, nat_lt, nat_le, Bool, false, ◌⊎◌, inl, inr, refl, sym, ap, ◌∙◌, subst, arith, length-set, get_or-set_same, get_or-set_other, pow_pos, div-lt_iff_lt-mul, le-div_iff_mul-le}
+use Rattle.std.proofs.Common.{◌≡◌, ℕ, suc, [], ◌∷◌, ◌++◌, take, ◌+◌, ◌-◌, ◌*◌, ◌/◌, ◌%◌, ◌^◌, ◌<◌, ◌≤◌, List, length, get_or, set, insert, Contains, bit_or, nat_lt, nat_le, Bool, false, ◌⊎◌, ◌↔◌, inl, inr, refl, sym, ap, ◌∙◌, subst, arith, length-set, get_or-set_same, get_or-set_other, pow_pos, div-lt_iff_lt-mul, le-div_iff_mul-le}
 use Rattle.std.specs.Int.{bit_at}
 use Rattle.std.specs.List.Sorted.{IsPartitionedBy}
 use Rattle.std.proofs.Math.Nat.{two-pow-succ}
 use Rattle.std.proofs.lemmas.Bool.{false≢true, cases_eq, cases_lt, ltb-true, ltb-false, leb-true, lt-ltb, le-ltb, le-leb, lt-leb}
-use Rattle.std.proofs.lemmas.List.{get_or_default, take_more}
+use Rattle.std.proofs.lemmas.List.{get_or_append_left, get_or_default, get_or_push, length_push, take_more}
 use Rattle.std.proofs.lemmas.List.Elements.{Contains-append_left, Contains-push, Contains-push_cases}
-use Rattle.std.proofs.lemmas.List.Edits.{length-insert, get_or-insert_below, get_or-insert_at, get_or-insert_above}
+use Rattle.std.proofs.lemmas.List.Edits.{length-insert, get_or-insert_below, get_or-insert_at, get_or-insert_above, insert_end}
 use Rattle.std.proofs.lemmas.Nat.Bits.{bit_at_or, bit_at_above, bit_at-pow_same, bit_at-pow_other, bit_at-zero, bit_at-lt}
 use Rattle.palm_base.specs.Order.{IsPartedAt}
 use Rattle.palm_base.specs.Tells.{Tells}
 use Rattle.palm_base.proofs.cited.Members.{member_nil, member_take}
 use Rattle.palm_base.proofs.cited.Telling.{tells_both, tells_false, tells_same}
 use Rattle.palm_explain.specs.declared.places.PlaceWord.{PlaceWord}
-use Rattle.palm_explain.specs.Places.{ArePlaceWords, BeginsBelow, HasPlace, IsIn, IsLastBelow, IsLastIn, IsSearched, with_bits}
+use Rattle.palm_explain.specs.Places.{AllBegin, ArePlaceWords, BeginsBelow, HasPlace, IsGapAt, IsIn, IsLastBelow, IsLastIn, IsMissing, IsSearched, with_bits}
 
 -- ---- the bits of a word
 
@@ -264,6 +264,98 @@ module _ (words : List PlaceWord) (formed : ArePlaceWords words) (at : ℕ) (own
               let e : own ≡ w = sym (here m.0 w (omega (arith, ge, le))) ∙ m.2 in inr (subst (λ (v : PlaceWord). IsIn v p) (sym e) is)
         ]
       ]
+
+-- ---- a word behind the others
+
+pub parted_end : (words : List PlaceWord) (start : ℕ) → AllBegin words start → IsPartedAt (λ w. nat_lt start w.start) words (length words)
+parted_end words start all = record {
+  within = omega arith;
+  before = λ k d ge lt. lt-ltb start (get_or words k d).start (all k d lt);
+  after = λ k d ge lt. absurd (omega (arith, ge, lt));
+}
+
+-- a gap behind all of them
+pub gap_behind : (words : List PlaceWord) (start at : ℕ) → IsGapAt words start at → length words ≤ at → AllBegin words start
+gap_behind words start at gap end k d lt = ltb-true start (get_or words k d).start (gap.parted.before k d (omega arith) (omega (arith, lt, end)))
+
+module _ (words : List PlaceWord) (formed : ArePlaceWords words) (own : PlaceWord) (aligned : own.start % 64 ≡ 0) (all : AllBegin words own.start) where
+  end_parted : IsPartedAt (λ w. nat_lt own.start w.start) words (length words)
+  end_parted = parted_end words own.start all
+
+  end_none : length words < length words → ((d : PlaceWord) → (get_or words (length words) d).start ≡ own.start) → ⊥
+  end_none lt same = omega (arith, lt)
+
+  pub push_formed : ArePlaceWords (words ++ own ∷ [])
+  push_formed = subst ArePlaceWords (insert_end words own) (insert_formed words formed (length words) own aligned end_parted end_none)
+
+  pub push_stay : (p : ℕ) → HasPlace words p → HasPlace (words ++ own ∷ []) p
+  push_stay p h = subst (λ (ws : List PlaceWord). HasPlace ws p) (insert_end words own) (insert_stay words formed (length words) own aligned end_parted end_none p h)
+
+  pub push_only : (p : ℕ) → HasPlace (words ++ own ∷ []) p → HasPlace words p ⊎ IsIn own p
+  push_only p h = insert_only words formed (length words) own aligned end_parted end_none p (subst (λ (ws : List PlaceWord). HasPlace ws p) (sym (insert_end words own)) h)
+
+  pub push_behind : (start : ℕ) → start < own.start → AllBegin words start → AllBegin (words ++ own ∷ []) start
+  push_behind start lt behind k d l =
+      let long = length_push words own in
+      elim (cases_lt k (length words)) [
+        | inl small ↦ subst (λ (w : PlaceWord). start < w.start) (sym (get_or_append_left words (own ∷ []) d k small)) (behind k d small)
+        | inr ge ↦ subst (λ (w : PlaceWord). start < w.start) (sym (get_or_push words own d k (omega (arith, long, l, ge)))) lt
+      ]
+
+-- words that all begin behind the place, with the places of the old ones
+pub record IsReached (first words : List PlaceWord) (start : ℕ) : Type 0 where
+  pub formed : ArePlaceWords words
+  pub behind : AllBegin words start
+  pub same : (p : ℕ) → HasPlace words p ↔ HasPlace first p
+
+pub reached_none : (words : List PlaceWord) (start : ℕ) → ArePlaceWords words → AllBegin words start → IsReached words words start
+reached_none words start formed behind = record { formed = formed; behind = behind; same = λ p. (λ h. h, λ h. h) }
+
+pub gap_reached : (first words : List PlaceWord) (start : ℕ) → start % 64 ≡ 0 → IsReached first words start → IsGapAt words start (length words)
+gap_reached first words start aligned reached = record {
+  formed = reached.formed;
+  aligned = aligned;
+  parted = parted_end words start reached.behind;
+  apart = λ lt same. omega (arith, lt);
+}
+
+abbrev pub empty_word : ℕ → PlaceWord
+empty_word start = record { start = start; bits = 0 }
+
+empty_none : (start p : ℕ) → IsIn (empty_word start) p → ⊥
+empty_none start p is = let one = is.one in let zero = bit_at-zero (p % 64) in omega (arith, one, zero)
+
+pub reached_next : (first words : List PlaceWord) (start next : ℕ) → IsReached first words start → IsMissing words start next → IsReached first (words ++ empty_word next ∷ []) start
+reached_next first words start next reached missing = record {
+  formed = push_formed words reached.formed (empty_word next) missing.aligned missing.last;
+  behind = push_behind words reached.formed (empty_word next) missing.aligned missing.last start missing.behind reached.behind;
+  same = λ p. (
+    λ h. elim (push_only words reached.formed (empty_word next) missing.aligned missing.last p h) [
+      | inl o ↦ (reached.same p).0 o
+      | inr is ↦ absurd (empty_none next p is)
+    ],
+    λ h. push_stay words reached.formed (empty_word next) missing.aligned missing.last p ((reached.same p).1 h),
+  );
+}
+
+abbrev pub last_start : List PlaceWord → ℕ
+last_start words = (get_or words (length words - 1) (empty_word 0)).start
+
+pub last_falls : (words : List PlaceWord) (start next : ℕ) → IsMissing words start next → last_start (words ++ empty_word next ∷ []) < last_start words
+last_falls words start next missing =
+    let long = length_push words (empty_word next) in
+    let some = missing.some in
+    let more = missing.last (length words - 1) (empty_word 0) (omega (arith, some)) in
+    subst (λ (w : PlaceWord). w.start < last_start words) (sym (get_or_push words (empty_word next) (empty_word 0) (length (words ++ empty_word next ∷ []) - 1) (omega (arith, long)))) more
+
+-- where the word behind the last one begins
+pub missing_next : (words : List PlaceWord) → ArePlaceWords words → (start last : ℕ) → ((d : PlaceWord) → (get_or words (length words - 1) d).start ≡ last) → 0 < length words → start % 64 ≡ 0 → start < last → 64 < last - start → IsMissing words start (last - 64)
+missing_next words formed start last is some aligned behind far = record {
+  some = some;
+  behind = omega (arith, behind, far);
+  aligned = let mine = formed.aligned (length words - 1) (empty_word 0) (omega (arith, some)) in let same = is (empty_word 0) in omega (arith, mine, same, far);
+  last = λ k d lt. let same = is d in let most = by_start words formed k (length words - 1) d (omega (arith, lt)) (omega (arith, some)) in omega (arith, same, most, far);
+}
 
 -- ---- words one after another
 

@@ -7,6 +7,7 @@ use Rattle.palm_model.specs.Log.{Removal}
 use Rattle.palm_explain.specs.declared.places.PlaceWord.{PlaceWord}
 use Rattle.palm_explain.specs.declared.entry.Entry.{Entry}
 use Rattle.palm_explain.specs.declared.noted.NotedSpan.{NotedSpan}
+use Rattle.palm_explain.specs.declared.noted.NotedSpans.{NotedSpans}
 use Rattle.palm_explain.specs.declared.rows.Row.{Row}
 pub use Rattle.palm_explain.specs.Entries.{pairs_with}
 use Rattle.palm_explain.specs.Entries.{log_of, written}
@@ -59,14 +60,30 @@ pub record IsWalked (entries : List Entry) (rows : List Row) (pairs : List Pair)
 
 -- ---- spans of what is noted
 
+-- the span has all values from the one to the other
+abbrev pub HasAll : NotedSpan → ℤ → ℤ → Type 0
+HasAll s low high = (s.low ≤ℤ low) × (high ≤ℤ s.high)
+
+-- neither span has a value
+abbrev pub AreBothEmpty : NotedSpans → Type 0
+AreBothEmpty s = (s.first.high <ℤ s.first.low) × (s.second.high <ℤ s.second.low)
+
+-- the other way round
+abbrev pub turned : NotedSpans → NotedSpans
+turned s = record { first = s.second; second = s.first }
+
 -- none of them has a value
-abbrev pub AreEmptySpans : List NotedSpan → Type 0
-AreEmptySpans spans = (x : ℕ) (s : NotedSpan) → slice_get spans x ≡ Some s → s.high <ℤ s.low
+abbrev pub AreEmptySpans : List NotedSpans → Type 0
+AreEmptySpans spans = (x : ℕ) (s : NotedSpans) → slice_get spans x ≡ Some s → AreBothEmpty s
 
 -- the number of each value of the variable in the span that was removed before the number is noted
 abbrev pub IsNotedSpan : List Row → ℕ → NotedSpan → ℕ → List PlaceWord → Type 0
 IsNotedSpan rows x s n noted = (v : ℤ) (k : ℕ) → s.low ≤ℤ v → v ≤ℤ s.high → number_at rows (record { var = x; value = v }) ≡ Some k → k < n → HasPlace noted k
 
--- that holds of each variable's span
-abbrev pub AreNotedSpans : List Row → List NotedSpan → ℕ → List PlaceWord → Type 0
-AreNotedSpans rows spans n noted = (x : ℕ) (s : NotedSpan) → slice_get spans x ≡ Some s → IsNotedSpan rows x s n noted
+-- that holds of both spans
+abbrev pub AreBothNoted : List Row → ℕ → NotedSpans → ℕ → List PlaceWord → Type 0
+AreBothNoted rows x s n noted = IsNotedSpan rows x s.first n noted × IsNotedSpan rows x s.second n noted
+
+-- that holds of each variable's spans
+abbrev pub AreNotedSpans : List Row → List NotedSpans → ℕ → List PlaceWord → Type 0
+AreNotedSpans rows spans n noted = (x : ℕ) (s : NotedSpans) → slice_get spans x ≡ Some s → AreBothNoted rows x s n noted

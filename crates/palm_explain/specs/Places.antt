@@ -1,6 +1,7 @@
 -- Sets of places of the log, by words of 64 places that stand together.
-use Rattle.std.specs.Prelude.{◌≡◌, ℕ, ◌-◌, ◌%◌, ◌<◌, ◌≤◌, List, Contains, length, slice_index_or, bit_or}
+use Rattle.std.specs.Prelude.{◌≡◌, ◌↔◌, ℕ, ◌-◌, ◌%◌, ◌<◌, ◌≤◌, List, Contains, length, nat_lt, slice_index_or, bit_or}
 use Rattle.std.specs.Int.{bit_at}
+use Rattle.palm_base.specs.Order.{IsPartedAt}
 use Rattle.palm_explain.specs.declared.places.PlaceWord.{PlaceWord}
 
 -- the place is one of the 64 of the word, and has a one there
@@ -43,3 +44,26 @@ pub record BeginsBelow (words : List PlaceWord) (index end : ℕ) : Type 0 where
   pub within : index < length words
   pub here : (d : PlaceWord) → (slice_index_or words index d).start < end
   pub before : (d : PlaceWord) → 0 < index → end ≤ (slice_index_or words (index - 1) d).start
+
+-- each of the words begins behind the place
+abbrev pub AllBegin : List PlaceWord → ℕ → Type 0
+AllBegin words start = (k : ℕ) (d : PlaceWord) → k < length words → start < (slice_index_or words k d).start
+
+-- a word is missing behind the last one: it would begin at `next`, behind `start`
+pub record IsMissing (words : List PlaceWord) (start next : ℕ) : Type 0 where
+  pub some : 0 < length words
+  pub behind : start < next
+  pub aligned : next % 64 ≡ 0
+  pub last : AllBegin words next
+
+-- the word that begins at `start` is missing, and belongs at the index
+pub record IsGapAt (words : List PlaceWord) (start at : ℕ) : Type 0 where
+  pub formed : ArePlaceWords words
+  pub aligned : start % 64 ≡ 0
+  pub parted : IsPartedAt (λ w. nat_lt start w.start) words at
+  pub apart : at < length words → ((d : PlaceWord) → (slice_index_or words at d).start ≡ start) → ⊥
+
+-- other words for the same places
+pub record HasSame (old new : List PlaceWord) : Type 0 where
+  pub formed : ArePlaceWords new
+  pub places : (p : ℕ) → HasPlace new p ↔ HasPlace old p

@@ -133,7 +133,8 @@ fn decisions_of(alloc: Global, vars: &Places) -> Result<Vec<Cid>, NoMemory>
 {
     let mut cids = Vec::new(alloc);
     let mut end = usize::MAX;
-    while let Some(var) = vars.last_below(end) {
+    let mut near = 0;
+    while let Some(var) = vars.last_below(end, &mut near) {
         cids.push(Cid::Decide(Var(var as u32)))?;
         end = var;
     }
@@ -148,7 +149,8 @@ fn users_of(alloc: Global, numbers: &Places) -> Result<Vec<Cid>, NoMemory>
 {
     let mut cids = Vec::new(alloc);
     let mut end = usize::MAX;
-    while let Some(number) = numbers.last_below(end) {
+    let mut near = 0;
+    while let Some(number) = numbers.last_below(end, &mut near) {
         cids.push(Cid::User(number as u32))?;
         end = number;
     }

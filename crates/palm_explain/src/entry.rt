@@ -73,3 +73,17 @@ pub(crate) fn place_of(log: &[Entry], number: usize) -> usize
     }
     place_by_halves(log, number)
 }
+
+/// How many of the entries have less numbers. Mostly the number stands before that which was looked for last, at `near`.
+#[inline(always)]
+pub(crate) fn place_near(log: &[Entry], number: usize, near: &mut usize) -> usize
+    requires { AllPairs (λ a b. a.number < b.number) log.now }
+    ensures { IsPartedAt (λ e. nat_lt e.number number) log.now result }
+{
+    let mut place = near.wrapping_sub(1);
+    if !has_number(log, place, number) {
+        place = place_of(log, number);
+    }
+    *near = place;
+    place
+}

@@ -2,15 +2,17 @@
 //! among its reasons is not looked at, however many such removals stand between. A reason is removed before what it is a reason
 //! for, so that none comes up behind the walk.
 ghost use Rattle.std.specs.Prelude.{◌≡◌, ◌↔◌, ℕ, ◌<◌, [], Some, Contains, length, slice_get, IfOk, OnOk};
+ghost use Rattle.palm_base.specs.declared.terms.Cid.{Cid as CidTerm};
 ghost use Rattle.palm_model.specs.Log.{IsListOf};
+ghost use Rattle.palm_explain.specs.CidSets.{Adds, IsMember};
 ghost use Rattle.palm_explain.specs.Entries.{AreEntered, log_of, pairs_with, row_span, span_pairs, written};
 ghost use Rattle.palm_explain.specs.Explanations.{NamesOfSome};
 ghost use Rattle.palm_explain.specs.Needed.{AreNotedSpans, Falls, HasNoted, IsNeededAt, IsNotedSpan};
 ghost use Rattle.palm_explain.specs.Rows.{AreFormedRows};
 
 use crate::cid_set::CidSet;
-use crate::entry::{Entry, place_of};
-use crate::noted::{NotedSpan, empty_spans, noted_of, set_noted, wider};
+use crate::entry::{Entry, place_near};
+use crate::noted::{NotedSpan, NotedSpans, empty_spans, noted_of, set_noted, wider};
 use crate::places::Places;
 use crate::rows::{NO_NUMBER, Row, number_near, row_at};
 use crate::spans::Span;
@@ -46,6 +48,9 @@ fn note_between(
     requires { AreFormedRows rows.now }
     ensures { OnOk result (HasNoted rows.now noted.old noted.new (pairs_with var (row_span (slice_get rows.now var) number low high))) }
 {
+    if high.0 < low.0 {
+        return Ok(());
+    }
     let Some(row) = row_at(rows, var) else {
         return Ok(());
     };
@@ -57,7 +62,7 @@ fn note_between(
     Ok(())
 }
 
-/// Notes the numbers of the reasons of a span, but for those that the known span of its variable holds. What is known then is the
+/// Notes the numbers of the reasons of a span, but for those that a known span of its variable holds. What is known then is the
 /// result.
 fn note_rest(
     rows: &[Row],
@@ -72,15 +77,12 @@ fn note_rest(
     ensures known { IfOk result (λ more. IsNotedSpan rows.now span.now.var more number noted.new) }
 {
     let Span { var, low, high, .. } = *span;
-    if known.has_all(low, high) {
-        return Ok(known);
-    }
     if !known.meets(low, high) {
         note_between(rows, var, low, high, number, noted)?;
         return Ok(wider(known, NotedSpan { low, high }));
     }
-    note_between(rows, var, low, known.low, number, noted)?;
-    note_between(rows, var, known.high, high, number, noted)?;
+    note_between(rows, var, low, known.below(), number, noted)?;
+    note_between(rows, var, known.behind(), high, number, noted)?;
     Ok(known.widened(low, high))
 }
 
@@ -89,7 +91,7 @@ fn note_span(
     rows: &[Row],
     span: &Span,
     number: usize,
-    known: &mut Vec<NotedSpan>,
+    known: &mut Vec<NotedSpans>,
     noted: &mut Places,
 ) -> Result<(), NoMemory>
     requires formed { AreFormedRows rows.now }
@@ -97,8 +99,14 @@ fn note_span(
     ensures noted { OnOk result (HasNoted rows.now noted.old noted.new (span_pairs rows.now number span.now)) }
     ensures known { OnOk result (AreNotedSpans rows.now known.new.items number noted.new) }
 {
-    let more = note_rest(rows, span, number, noted_of(known, span.var), noted)?;
-    set_noted(known, span.var, more);
+    let own = noted_of(known, span.var);
+    if own.has_all(span.low, span.high) {
+        return Ok(());
+    }
+    let spans = own.turned(span.low, span.high);
+    let first = note_rest(rows, span, number, spans.first, noted)?;
+    let second = spans.second;
+    set_noted(known, span.var, NotedSpans { first, second });
     Ok(())
 }
 
@@ -106,7 +114,7 @@ fn note_span(
 fn note_reasons(
     rows: &[Row],
     entry: &Entry,
-    known: &mut Vec<NotedSpan>,
+    known: &mut Vec<NotedSpans>,
     noted: &mut Places,
 ) -> Result<(), NoMemory>
     requires formed { AreFormedRows rows.now }
@@ -147,12 +155,31 @@ pub(crate) fn add_needed(
     note_values(rows, var, values, &mut noted)?;
     let mut known = empty_spans(*visited.allocator(), rows.len())?;
     let mut end = NO_NUMBER;
-    while let Some(number) = noted.last_below(end) {
-        let place = place_of(log, number);
+    let mut word = 0;
+    let mut near = 0;
+    while let Some(number) = noted.last_below(end, &mut word) {
+        let place = place_near(log, number, &mut near);
         visited.push(place)?;
         note_reasons(rows, entry_at(log, place), &mut known, &mut noted)?;
         end = number;
     }
+    Ok(())
+}
+
+/// Adds an id to a set, unless it was added last. A constraint mostly makes several removals in a row.
+#[inline(always)]
+fn add_next(cids: &mut CidSet, cid: &Cid, last: &mut Option<Cid>) -> Result<(), NoMemory>
+    requires { (c : CidTerm) → last.old ≡ Some c → IsMember cids.old c }
+    ensures added { OnOk result (Adds cids.old (λ c. c ≡ cid.now) cids.new) }
+    ensures last { OnOk result ((c : CidTerm) → last.new ≡ Some c → IsMember cids.new c) }
+{
+    if let Some(own) = last {
+        if own.is_same(cid) {
+            return Ok(());
+        }
+    }
+    cids.add(cid)?;
+    *last = Some(*cid);
     Ok(())
 }
 
@@ -171,10 +198,13 @@ pub(crate) fn cids_of(
     note_values(rows, var, values, &mut noted)?;
     let mut known = empty_spans(alloc, rows.len())?;
     let mut cids = CidSet::new(alloc);
+    let mut last = None;
     let mut end = NO_NUMBER;
-    while let Some(number) = noted.last_below(end) {
-        let entry = entry_at(log, place_of(log, number));
-        cids.add(&entry.by)?;
+    let mut word = 0;
+    let mut near = 0;
+    while let Some(number) = noted.last_below(end, &mut word) {
+        let entry = entry_at(log, place_near(log, number, &mut near));
+        add_next(&mut cids, &entry.by, &mut last)?;
         note_reasons(rows, entry, &mut known, &mut noted)?;
         end = number;
     }

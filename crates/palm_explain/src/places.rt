@@ -1,15 +1,19 @@
-//! Sets of places, of few of many: a word for 64 places that stand together, where one of them is in the set. A walk down the log
-//! keeps the numbers of removals so, and a set of ids the variables of decisions and the numbers of users.
-ghost use Rattle.std.specs.Prelude.{◌≡◌, ◌⊎◌, ℕ, ◌%◌, ◌<◌, ◌≤◌, true, [], length, nat_le, nat_lt, slice_index_or, slice_set, IfNone, IfSome, OnOk};
+//! Sets of places, of few of many: a word for 64 places that stand together, where one of them is in the set, and words of no place
+//! where few would be missing between two. A walk down the log keeps the numbers of removals so, and a set of ids the variables of
+//! decisions and the numbers of users.
+ghost use Rattle.std.specs.Prelude.{◌≡◌, ◌⊎◌, ℕ, ◌%◌, ◌<◌, ◌≤◌, true, [], length, nat_le, nat_lt, slice_index_or, slice_set, IfNone, IfOk, IfSome, OnOk};
 ghost use Rattle.std.specs.Int.{bit_at};
 ghost use Rattle.palm_base.specs.Order.{IsPartedAt};
 ghost use Rattle.palm_base.specs.Tells.{Tells};
-ghost use Rattle.palm_explain.specs.Places.{ArePlaceWords, BeginsBelow, HasPlace, IsIn, IsLastBelow, IsLastIn, with_bits};
+ghost use Rattle.palm_explain.specs.Places.{ArePlaceWords, BeginsBelow, HasPlace, HasSame, IsGapAt, IsIn, IsLastBelow, IsLastIn, IsMissing, with_bits};
 ghost use Rattle.palm_explain.specs.declared.places.PlaceWord.{PlaceWord as PlaceWordTerm};
 
 use palm_base::NoMemory;
 use std::alloc::{AllocError, Global};
 use std::marker::Model;
+
+/// How far behind one another two words may begin, if words of no place are to be put between.
+const GAP: usize = 16 * 64;
 
 /// Which of 64 places that stand together are in a set.
 #[derive(Clone, Copy, Debug)]
@@ -64,7 +68,7 @@ impl Places {
         })
     }
 
-    /// Adds the places of a word, but for those that are there. Without memory nothing changes.
+    /// Adds the places of a word, but for those that are there. Without memory no place is added.
     #[inline(always)]
     fn add_word(&mut self, word: &PlaceWord) -> Result<(), NoMemory>
         requires { word.now.start % 64 ≡ 0 }
@@ -78,7 +82,9 @@ impl Places {
             join_bits(&mut self.words, at, word.bits);
             return Ok(());
         }
-        self.words.insert(at, *word)?;
+        let gap = reach(&mut self.words, at, word.start)?;
+        self.near = gap;
+        self.words.insert(gap, *word)?;
         Ok(())
     }
 
@@ -103,15 +109,17 @@ impl Places {
         starts_at(&self.words, at, start) && has_bit(&self.words, at, place % 64)
     }
 
-    /// The last of the places below the end.
-    pub(crate) fn last_below(&self, end: usize) -> Option<usize>
+    /// The last of the places below the end. Its word is looked for first at an index, and `near` is then where it stands.
+    #[inline(always)]
+    pub(crate) fn last_below(&self, end: usize, near: &mut usize) -> Option<usize>
         ensures some { IfSome result (λ place. IsLastBelow self.now end place) }
         ensures none { IfNone result ((p : ℕ) → HasPlace self.now p → p < end → ⊥) }
     {
         let words = self.words.as_slice();
-        let mut index = index_below(words, end);
+        let mut index = index_below(words, *near, end);
         while index < words.len() {
             if let Some(place) = last_in(&words[index], end) {
+                *near = index;
                 return Some(place);
             }
             index += 1;
@@ -131,25 +139,16 @@ fn starts_at(words: &[PlaceWord], index: usize, start: usize) -> bool
     }
 }
 
-/// How many of the words begin behind this place, found by halves.
-#[inline(never)]
-fn index_of(words: &[PlaceWord], start: usize) -> usize
-    requires { ArePlaceWords words.now }
-    ensures { IsPartedAt (λ w. nat_lt start w.start) words.now result }
-{
-    words.partition_point(|word| start < word.start)
-}
-
-/// The index of the word that begins at this place if no word is missing behind it.
+/// The index of the word that begins at this place if no word is missing between it and the one at `near`.
 #[inline(always)]
-fn guessed(words: &[PlaceWord], start: usize) -> usize {
-    match words.first() {
-        Some(first) => first.start.wrapping_sub(start) / 64,
+fn guessed(words: &[PlaceWord], near: usize, start: usize) -> usize {
+    match words.get(near) {
+        Some(word) => near.wrapping_add((word.start / 64).wrapping_sub(start / 64)),
         None => 0,
     }
 }
 
-/// How many of the words begin behind this place: mostly the word at `near` begins there, or no word is missing.
+/// How many of the words begin behind this place: mostly the word at `near` begins there, or no word is missing between that and it.
 #[inline(always)]
 fn index_near(words: &[PlaceWord], near: usize, start: usize) -> usize
     requires { ArePlaceWords words.now }
@@ -158,20 +157,48 @@ fn index_near(words: &[PlaceWord], near: usize, start: usize) -> usize
     if starts_at(words, near, start) {
         return near;
     }
-    let guess = guessed(words, start);
+    let guess = guessed(words, near, start);
     if starts_at(words, guess, start) {
         return guess;
     }
-    index_of(words, start)
+    words.partition_point(|word| start < word.start)
 }
 
-/// How many of the words begin at this place or behind it, found by halves.
-#[inline(never)]
-fn index_from(words: &[PlaceWord], end: usize) -> usize
-    requires { ArePlaceWords words.now }
-    ensures { IsPartedAt (λ w. nat_le end w.start) words.now result }
+/// Where the next word begins, if the last one begins behind `start`, and few words but some are missing between.
+#[inline(always)]
+fn next_missing(words: &[PlaceWord], start: usize) -> Option<usize>
+    requires formed { ArePlaceWords words.now }
+    requires aligned { start % 64 ≡ 0 }
+    ensures { IfSome result (λ next. IsMissing words.now start next) }
 {
-    words.partition_point(|word| end <= word.start)
+    let count = words.len();
+    if count == 0 {
+        return None;
+    }
+    let last = words[count - 1].start;
+    if last <= start || last - start <= 64 || last - start > GAP {
+        return None;
+    }
+    Some(last - 64)
+}
+
+/// Where a word belongs that begins at `start` and is missing at an index. If that is behind the others, words of no place are put
+/// between, but not where many are missing.
+fn reach(words: &mut Vec<PlaceWord>, at: usize, start: usize) -> Result<usize, NoMemory>
+    requires { IsGapAt words.old.items start at }
+    ensures gap { IfOk result (IsGapAt words.new.items start) }
+    ensures same { HasSame words.old.items words.new.items }
+{
+    if at < words.len() {
+        return Ok(at);
+    }
+    while let Some(next) = next_missing(words, start) {
+        words.push(PlaceWord {
+            start: next,
+            bits: 0,
+        })?;
+    }
+    Ok(words.len())
 }
 
 /// Whether the word at an index is the first one that begins below this place.
@@ -185,17 +212,16 @@ fn begins_below(words: &[PlaceWord], index: usize, end: usize) -> bool
     }
 }
 
-/// How many of the words begin at this place or behind it: mostly no word is missing.
-fn index_below(words: &[PlaceWord], end: usize) -> usize
+/// How many of the words begin at this place or behind it: mostly so many as at `near`.
+#[inline(always)]
+fn index_below(words: &[PlaceWord], near: usize, end: usize) -> usize
     requires { ArePlaceWords words.now }
     ensures { IsPartedAt (λ w. nat_le end w.start) words.now result }
 {
-    let last = end.wrapping_sub(1);
-    let guess = guessed(words, last - last % 64);
-    if begins_below(words, guess, end) {
-        return guess;
+    if begins_below(words, near, end) {
+        return near;
     }
-    index_from(words, end)
+    words.partition_point(|word| end <= word.start)
 }
 
 /// Makes each of these bits of the word at an index a one.
@@ -232,6 +258,7 @@ fn low_bits(bits: u64, count: usize) -> u64
 }
 
 /// The last place of the word below the end.
+#[inline(always)]
 fn last_in(word: &PlaceWord, end: usize) -> Option<usize>
     requires start { word.now.start < end }
     requires aligned { word.now.start % 64 ≡ 0 }

@@ -24,10 +24,10 @@ loop-number-init c =
 pub entry_at-requires : goal.entry_at-requires
 entry_at-requires c =
     let log = c.args.log.now in
-    let place = c.place_of-place.result in
+    let place = c.place_near-place.result in
     let entered = c.requires.entered in
     let e = walk_here log c.args.rows.now entered.0 entered.1 (pairs_with c.args.var c.args.values.now) c.loop-number.noted c.loop-number.end c.in-Some.number place c.loop-number.visited.items
-    c.loop-number.invariant.0 c.in-Some.ensures.some.has c.place_of-place.ensures in
+    c.loop-number.invariant.0 c.in-Some.ensures.some.has c.place_near-place.ensures in
     slice_get_within log place e.0 e.1
 
 pub loop-number-preserved : goal.loop-number-preserved
@@ -38,9 +38,9 @@ loop-number-preserved c =
     let l = c.loop-number in
     let more = c.note_reasons.new.noted in
     let number = c.in-Some.number in
-    let place = c.place_of-place.result in
+    let place = c.place_near-place.result in
     let entered = c.requires.entered in
-    let f = walk_here log rows entered.0 entered.1 pairs l.noted l.end number place l.visited.items l.invariant.0 c.in-Some.ensures.some.has c.place_of-place.ensures in
+    let f = walk_here log rows entered.0 entered.1 pairs l.noted l.end number place l.visited.items l.invariant.0 c.in-Some.ensures.some.has c.place_near-place.ensures in
     let e = c.entry_at.result.now in
     let same = some_same e f.0 (sym c.entry_at.ensures ∙ f.1) in
     let is = ap (λ (g : Entry). g.number) same ∙ f.2 in (
@@ -56,7 +56,7 @@ note_reasons-requires-clause-known c =
     let l = c.loop-number in
     let number = c.in-Some.number in
     let entered = c.requires.entered in
-    let f = walk_here log rows entered.0 entered.1 (pairs_with c.args.var c.args.values.now) l.noted l.end number c.place_of-place.result l.visited.items l.invariant.0 c.in-Some.ensures.some.has c.place_of-place.ensures in
+    let f = walk_here log rows entered.0 entered.1 (pairs_with c.args.var c.args.values.now) l.noted l.end number c.place_near-place.result l.visited.items l.invariant.0 c.in-Some.ensures.some.has c.place_near-place.ensures in
     let e = c.entry_at.result.now in
     let is : e.number ≡ number = ap (λ (g : Entry). g.number) (some_same e f.0 (sym c.entry_at.ensures ∙ f.1)) ∙ f.2 in
     let below = c.in-Some.ensures.some.below in

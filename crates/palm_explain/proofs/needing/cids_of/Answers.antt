@@ -1,4 +1,5 @@
-use Rattle.std.proofs.Common.{◌≡◌, ◌∙◌, arith, [], ◌∷◌, ◌++◌, sym, ap, subst}
+use Rattle.std.proofs.Common.{◌≡◌, ◌∙◌, arith, [], ◌∷◌, ◌++◌, sym, ap, subst, None, Some}
+use Rattle.palm_base.specs.declared.terms.Cid.{Cid}
 use Rattle.std.proofs.lemmas.Option.{slice_get_within}
 use Rattle.palm_explain.specs.declared.entry.Entry.{Entry}
 use Rattle.palm_explain.specs.declared.rows.TheConstants.{NO_NUMBER}
@@ -10,6 +11,9 @@ use Rattle.palm_explain.proofs.NotedSpans.{spans_empty, spans_lower}
 use Rattle.palm_explain.proofs.Reasons.{map_place, some_same}
 use Rattle.palm_explain.proofs.Stores.{if_ok}
 use Rattle.palm_explain.proofs.needing.cids_of.Goals as goal
+
+none_some : (d : Cid) → None ≡ Some d → ⊥
+none_some d e = cc
 
 pub loop-number-init : goal.loop-number-init
 loop-number-init c =
@@ -24,16 +28,17 @@ loop-number-init c =
         made = makers_none (log_of rows log) (IsMember c.new-cids.result) c.new-cids.ensures;
       },
       spans_empty rows c.in_ok-known.known.items NO_NUMBER noted c.in_ok-known.ensures,
+      λ d is. absurd (none_some d is),
     )
 
 pub entry_at-entry-requires : goal.entry_at-entry-requires
 entry_at-entry-requires c =
     let log = c.args.log.now in
-    let place = c.place_of.result in
+    let place = c.place_near.result in
     let entered = c.requires.entered in
     let i = c.loop-number.invariant.0 in
     let e = walk_here log c.args.rows.now entered.0 entered.1 (pairs_with c.args.var c.args.values.now) c.loop-number.noted c.loop-number.end c.in-Some.number place i.visited
-    i.walked c.in-Some.ensures.some.has c.place_of.ensures in
+    i.walked c.in-Some.ensures.some.has c.place_near.ensures in
     slice_get_within log place e.0 e.1
 
 pub loop-number-preserved : goal.loop-number-preserved
@@ -44,18 +49,19 @@ loop-number-preserved c =
     let l = c.loop-number in
     let i = l.invariant.0 in
     let number = c.in-Some.number in
-    let place = c.place_of.result in
+    let place = c.place_near.result in
     let entered = c.requires.entered in
-    let f = walk_here log rows entered.0 entered.1 pairs l.noted l.end number place i.visited i.walked c.in-Some.ensures.some.has c.place_of.ensures in
+    let f = walk_here log rows entered.0 entered.1 pairs l.noted l.end number place i.visited i.walked c.in-Some.ensures.some.has c.place_near.ensures in
     let e = c.entry_at-entry.result.now in
     let at = c.entry_at-entry.ensures in
     let is = ap (λ (g : Entry). g.number) (some_same e f.0 (sym at ∙ f.1)) ∙ f.2 in (
       record {
         visited = i.visited ++ place ∷ [];
         walked = walk_next log rows entered.0 entered.1 pairs l.noted c.note_reasons.new.noted l.end number place e i.visited i.walked c.in-Some.ensures.some at is c.in_ok-note_reasons.ensures.noted;
-        made = makers_more (log_of rows log) i.visited place (removal_of rows e) (IsMember l.cids) (IsMember c.add.new.self) (map_place (removal_of rows) log place e at) i.made c.in_ok-add.ensures;
+        made = makers_more (log_of rows log) i.visited place (removal_of rows e) (IsMember l.cids) (IsMember c.add_next.new.cids) (map_place (removal_of rows) log place e at) i.made c.in_ok-add_next.ensures.added;
       },
       subst (λ n. AreNotedSpans rows c.note_reasons.new.known.items n c.note_reasons.new.noted) is c.in_ok-note_reasons.ensures.known,
+      c.in_ok-add_next.ensures.last,
     )
 
 pub note_reasons-requires-clause-known : goal.note_reasons-requires-clause-known
@@ -66,7 +72,7 @@ note_reasons-requires-clause-known c =
     let i = l.invariant.0 in
     let number = c.in-Some.number in
     let entered = c.requires.entered in
-    let f = walk_here log rows entered.0 entered.1 (pairs_with c.args.var c.args.values.now) l.noted l.end number c.place_of.result i.visited i.walked c.in-Some.ensures.some.has c.place_of.ensures in
+    let f = walk_here log rows entered.0 entered.1 (pairs_with c.args.var c.args.values.now) l.noted l.end number c.place_near.result i.visited i.walked c.in-Some.ensures.some.has c.place_near.ensures in
     let e = c.entry_at-entry.result.now in
     let is : e.number ≡ number = ap (λ (g : Entry). g.number) (some_same e f.0 (sym c.entry_at-entry.ensures ∙ f.1)) ∙ f.2 in
     let below = c.in-Some.ensures.some.below in

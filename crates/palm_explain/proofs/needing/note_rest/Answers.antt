@@ -1,12 +1,7 @@
 use Rattle.std.proofs.Common.{inl, inr, sym, subst, arith}
 use Rattle.palm_explain.specs.Needed.{IsNotedSpan}
-use Rattle.palm_explain.proofs.NotedSpans.{all_noted, rest_noted, span_held, widened_noted}
+use Rattle.palm_explain.proofs.NotedSpans.{all_noted, rest_noted, widened_noted}
 use Rattle.palm_explain.proofs.needing.note_rest.Goals as goal
-
-pub returns-then-has_all-clause-noted : goal.returns-then-has_all-clause-noted
-returns-then-has_all-clause-noted c =
-    let has = c.has_all.ensures c.if-has_all.true in
-    span_held c.args.rows.now c.args.span.now c.args.number c.args.known c.args.noted.now c.requires.known has.0 has.1
 
 pub returns-then-not-meets-clause-known : goal.returns-then-not-meets-clause-known
 returns-then-not-meets-clause-known c =
@@ -24,14 +19,14 @@ returns-then-not-meets-clause-known c =
 widened : (c : goal.After-widened) → IsNotedSpan c.args.rows.now c.args.span.now.var c.widened.result c.args.number c.note_between-3.new.noted
 widened c =
     let wide = c.widened.ensures in
-    widened_noted c.args.rows.now c.args.span.now c.args.number c.args.known c.widened.result c.args.noted.now c.note_between-2.new.noted c.note_between-3.new.noted
+    widened_noted c.args.rows.now c.args.span.now c.args.number c.args.known c.widened.result c.below.result c.behind.result c.below.ensures c.behind.ensures c.args.noted.now c.note_between-2.new.noted c.note_between-3.new.noted
     c.in_ok-note_between-2.ensures c.in_ok-note_between-3.ensures (let fits = c.ranges.number.fits in omega (arith, fits)) c.requires.known wide.low.1 wide.high.1
 
 pub returns-clause-noted : goal.returns-clause-noted
 returns-clause-noted c =
     let wide = c.widened.ensures in
     let meets = c.meets.ensures c.if-not-meets.false in
-    rest_noted c.args.rows.now c.args.span.now c.args.number c.args.known c.widened.result c.args.noted.now c.note_between-2.new.noted c.note_between-3.new.noted
+    rest_noted c.args.rows.now c.args.span.now c.args.number c.args.known c.widened.result c.below.result c.behind.result c.below.ensures c.behind.ensures c.args.noted.now c.note_between-2.new.noted c.note_between-3.new.noted
     c.in_ok-note_between-2.ensures c.in_ok-note_between-3.ensures meets.0 meets.1 (widened c) wide.low.0 wide.high.0
 
 pub returns-clause-known : goal.returns-clause-known
