@@ -7,6 +7,8 @@ ghost use Rattle.palm_base.specs.Order.{Rises, cid_before, IsPartedAt};
 ghost use Rattle.palm_model.specs.State.{without_cid};
 ghost use Rattle.palm_agenda.specs.Agenda.{Connected, HasPlace, IsConnected, IsFormed, IsOver, IsStanding, Takes, changed_among, changed_at, index_within, marked_whole, mark_others, mark_own, connected_cids, unmarked, with_connected, without_connected};
 ghost use Rattle.palm_agenda.specs.declared.mark.Mark.TheVariants.{Clear};
+ghost use Rattle.palm_agenda.specs.declared.loss.Loss.{Loss as LossTerm};
+ghost use Rattle.palm_agenda.specs.Heard.{IsHearing};
 ghost use Rattle.palm_agenda.specs.Losses.{heed_of};
 ghost use Rattle.palm_agenda.specs.Open.{Covers, is_open};
 ghost use Rattle.palm_agenda.specs.declared.agenda.Woken.{Woken as WokenTerm};
@@ -18,13 +20,14 @@ ghost use Rattle.palm_agenda.specs.Places.{mark_places};
 use crate::cids::Cids;
 use crate::connection::{Connection, Places};
 use crate::flags::{Flags, raised_from};
+use crate::heard::Heard;
 use crate::loss::Loss;
 use crate::mark::Mark;
 use crate::open::Open;
 use crate::order::Order;
 use crate::over::{cids_over, insert_over, make_room, remove_over};
 use crate::taken::Taken;
-use palm_base::{Cid, HasCid, NoMemory, Value, Var, place_from, place_of, stands_at};
+use palm_base::{Cid, HasCid, NoMemory, Value, Var, place_of, stands_at};
 use palm_filter::Heed;
 use std::alloc::Global;
 use std::marker::Model;
@@ -65,83 +68,71 @@ impl Model for Agenda {
         × IsWoken a.woken a.connections.items (flagged (connected_cids a.connections.items) a.pending.flags) };
 }
 
-/// A connected constraint from which others are counted: its id, and where it stands.
-#[derive(Clone, Copy, Debug)]
-struct Known {
-    cid: Cid,
-    place: usize,
-}
-
-/// The last of the connected constraints.
-fn last_known(connections: &[Connection]) -> Known {
-    match connections.last() {
-        Some(last) => Known {
-            cid: last.cid(),
-            place: connections.len() - 1,
-        },
-        None => Known {
-            cid: Cid::Decide(Var(0)),
-            place: 0,
-        },
-    }
-}
-
-/// How many places before the one id the other one stands, where both are users' and each number between the two is
-/// taken. It wraps around.
+/// How far behind its number the constraint of a user stands that stands at the place. It wraps around.
 #[inline(always)]
-fn places_between(known: Cid, cid: &Cid) -> usize {
-    match (known, cid) {
-        (Cid::User(known), Cid::User(number)) => (known as usize).wrapping_sub(*number as usize),
+fn shift_at(place: usize, cid: &Cid) -> usize {
+    match cid {
+        Cid::User(number) => place.wrapping_sub(*number as usize),
         _ => 0,
     }
 }
 
-/// Where the constraint stands, counted from the known one.
-#[inline(always)]
-fn guessed_place(known: &Known, cid: &Cid) -> usize {
-    known.place.wrapping_sub(places_between(known.cid, cid))
-}
-
-/// How many of the connected constraints have ids that come before this one, which is looked for first where it is
-/// guessed.
-#[inline(always)]
-fn place_near(connections: &[Connection], known: &Known, cid: &Cid) -> usize
-    requires { Rises (connected_cids connections.now) }
-    ensures { IsPartedAt (λ d. cid_before d.cid cid.now) connections.now result }
-{
-    let guess = guessed_place(known, cid);
-    if stands_at(connections, guess, cid) {
-        guess
-    } else {
-        place_from(connections, known.place, cid)
+/// How far behind its number the last of the connected constraints stands.
+fn last_shift(connections: &[Connection]) -> usize {
+    match connections.last() {
+        Some(last) => shift_at(connections.len() - 1, &last.cid()),
+        None => 0,
     }
 }
 
-/// Makes the constraint pending, and marks these places of it, as seen from the variable. It is counted from the known
-/// one, and is known from then on. Answers how losses of the variable are heeded.
+/// How many of the connected constraints have ids that come before this one. That of a user is looked for first where it
+/// stands so far behind its number as the one before. Where it does not, it is known from then on how far it does.
+#[inline(always)]
+fn place_near(connections: &[Connection], shift: &mut usize, cid: &Cid) -> usize
+    requires { Rises (connected_cids connections.now) }
+    ensures { IsPartedAt (λ d. cid_before d.cid cid.now) connections.now result }
+{
+    if let Cid::User(number) = cid {
+        let guess = shift.wrapping_add(*number as usize);
+        if stands_at(connections, guess, &Cid::User(*number)) {
+            return guess;
+        }
+    }
+    let place = place_of(connections, cid);
+    *shift = shift_at(place, cid);
+    place
+}
+
+/// Makes the constraint pending, and marks these places of it, as seen from the variable. It is counted by the shift, which
+/// is its own from then on, and it is heard how it heeds losses of the variable.
+#[inline(always)]
 fn wake_named(
     connections: &mut Vec<Connection>,
     pending: &mut Flags,
-    known: &mut Known,
+    shift: &mut usize,
+    heard: &mut Heard,
     cid: &Cid,
     places: &Places,
     var: &Var,
-) -> Heed
+)
     requires rising { Rises (connected_cids connections.old.items) }
     requires flags { length pending.old.flags ≡ length connections.old.items }
     requires over { IsOver connections.old.items var.now cid.now }
+    requires hearing { IsHearing heard.old places.now }
     ensures marks { connections.new.items ≡ map (changed_at cid.now (mark_places places.now var.now)) connections.old.items }
     ensures pending { (c : CidTerm) → Contains (flagged (connected_cids connections.new.items) pending.new.flags) c
         ↔ (Contains (flagged (connected_cids connections.old.items) pending.old.flags) c ⊎ (c ≡ cid.now)) }
     ensures flags { length pending.new.flags ≡ length pending.old.flags }
-    ensures heed { (d : Connected) → Contains connections.old.items d → d.cid ≡ cid.now → result ≡ heed_of var.now d.scope d.heeds }
+    ensures hearing { IsHearing heard.new places.now }
+    ensures covers { (d : Connected) → Contains connections.old.items d → d.cid ≡ cid.now → Covers heard.new.still places.now (heed_of var.now d.scope d.heeds) }
+    ensures more { (l : LossTerm) → is_open heard.new.still l ≡ false → is_open heard.old.still l ≡ false }
 {
-    let place = place_near(connections, known, cid);
+    let place = place_near(connections, shift, cid);
     let connection = &mut connections[place];
-    let heed = connection.mark(places, var);
+    let heed = connection.heed_of(var);
+    heard.hear(heed, places);
+    connection.mark(places, var, &heard.change);
     pending.raise(place);
-    *known = Known { cid: *cid, place };
-    heed
 }
 
 /// Whether a waking is noted of the variable, after which the loss marks nothing more.
@@ -156,6 +147,7 @@ fn is_noted(woken: &Option<Woken>, var: &Var, loss: &Loss) -> bool
 
 /// Makes each of the constraints pending, and marks these places of it, as seen from the variable. Answers which
 /// losses of the variable may mark something more.
+#[inline(always)]
 fn wake_each(
     connections: &mut Vec<Connection>,
     pending: &mut Flags,
@@ -172,13 +164,20 @@ fn wake_each(
     ensures flags { length pending.new.flags ≡ length pending.old.flags }
     ensures covers { (d : Connected) → Contains connections.old.items d → Contains cids.now d.cid → Covers result places.now (heed_of var.now d.scope d.heeds) }
 {
-    let mut known = last_known(connections);
-    let mut still = Open::none();
+    let mut shift = last_shift(connections);
+    let mut heard = Heard::new(places);
     for cid in cids {
-        let heed = wake_named(connections, pending, &mut known, cid, places, var);
-        still.note_marked(heed, places);
+        wake_named(
+            connections,
+            pending,
+            &mut shift,
+            &mut heard,
+            cid,
+            places,
+            var,
+        );
     }
-    still
+    heard.still
 }
 
 /// Takes a mark of the constraint away.
@@ -485,6 +484,7 @@ impl Agenda {
 
     /// The pending constraint that the order answers when it is asked once, which is pending no longer. The order is not
     /// asked where none is pending.
+    #[inline(never)]
     fn take_answered<O: Order>(&mut self, order: &mut O) -> Option<Taken>
         ensures none { IfNone result ((self.old.pending ≡ []) × (self.new ≡ self.old) × (order.new ≡ order.old)) }
         ensures standing { IfSome result (IsStanding self.old.connected) }
