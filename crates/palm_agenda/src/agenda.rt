@@ -451,6 +451,7 @@ impl Agenda {
 
     /// The constraint that is revised next, which is pending no longer: the first one without an order, and with one
     /// the one that it answers when it is asked once. It is not asked where none is pending.
+    #[inline(always)]
     pub fn take<O: Order>(&mut self, order: &mut Option<O>) -> Option<Taken>
         ensures none { IfNone result ((self.old.pending ≡ []) × (self.new ≡ self.old) × (order.new ≡ order.old)) }
         ensures standing { IfSome result (IsStanding self.old.connected) }
@@ -469,6 +470,7 @@ impl Agenda {
     }
 
     /// The first pending constraint, which is pending no longer.
+    #[inline(always)]
     fn take_first(&mut self) -> Option<Taken>
         ensures none { IfNone result ((self.old.pending ≡ []) × (self.new ≡ self.old)) }
         ensures standing { IfSome result (IsStanding self.old.connected) }
