@@ -42,7 +42,8 @@ struct Woken {
 /// The connected constraints by rising id, a flag for each of them that is raised where it is pending, and the ids of
 /// the constraints over each variable. There is room for every id among those that an order is shown; where it is noted so
 /// they are those that are pending. The variable of which a loss woke constraints last is known while nothing was taken or
-/// unmarked since, and which losses of it may mark something more: another one changes nothing.
+/// unmarked since, and which losses of it may mark something more: another one changes nothing. The lag is how far behind
+/// its number the user's constraint stands that was looked for last; it wraps around.
 #[derive(Debug, Drop)]
 pub struct Agenda {
     connections: Vec<Connection>,
@@ -51,6 +52,7 @@ pub struct Agenda {
     shown: Vec<Cid>,
     is_shown: bool,
     woken: Option<Woken>,
+    lag: usize,
 }
 
 impl Model for Agenda {
@@ -68,48 +70,32 @@ impl Model for Agenda {
         × IsWoken a.woken a.connections.items (flagged (connected_cids a.connections.items) a.pending.flags) };
 }
 
-/// How far behind its number the constraint of a user stands that stands at the place. It wraps around.
-#[inline(always)]
-fn shift_at(place: usize, cid: &Cid) -> usize {
-    match cid {
-        Cid::User(number) => place.wrapping_sub(*number as usize),
-        _ => 0,
-    }
-}
-
-/// How far behind its number the last of the connected constraints stands.
-fn last_shift(connections: &[Connection]) -> usize {
-    match connections.last() {
-        Some(last) => shift_at(connections.len() - 1, &last.cid()),
-        None => 0,
-    }
-}
-
 /// How many of the connected constraints have ids that come before this one. That of a user is looked for first where it
-/// stands so far behind its number as the one before. Where it does not, it is known from then on how far it does.
+/// stands if it lags behind its number as the last one did. Where it does not, its own lag is known from then on.
 #[inline(always)]
-fn place_near(connections: &[Connection], shift: &mut usize, cid: &Cid) -> usize
+fn place_near(connections: &[Connection], lag: &mut usize, cid: &Cid) -> usize
     requires { Rises (connected_cids connections.now) }
     ensures { IsPartedAt (λ d. cid_before d.cid cid.now) connections.now result }
 {
-    if let Cid::User(number) = cid {
-        let guess = shift.wrapping_add(*number as usize);
-        if stands_at(connections, guess, &Cid::User(*number)) {
-            return guess;
-        }
+    let Cid::User(number) = cid else {
+        return place_of(connections, cid);
+    };
+    let guess = lag.wrapping_add(*number as usize);
+    if stands_at(connections, guess, cid) {
+        return guess;
     }
     let place = place_of(connections, cid);
-    *shift = shift_at(place, cid);
+    *lag = place.wrapping_sub(*number as usize);
     place
 }
 
-/// Makes the constraint pending, and marks these places of it, as seen from the variable. It is counted by the shift, which
-/// is its own from then on, and it is heard how it heeds losses of the variable.
+/// Makes the constraint pending, and marks these places of it, as seen from the variable. It is looked for by the lag,
+/// and it is heard how it heeds losses of the variable.
 #[inline(always)]
 fn wake_named(
     connections: &mut Vec<Connection>,
     pending: &mut Flags,
-    shift: &mut usize,
+    lag: &mut usize,
     heard: &mut Heard,
     cid: &Cid,
     places: &Places,
@@ -127,7 +113,7 @@ fn wake_named(
     ensures covers { (d : Connected) → Contains connections.old.items d → d.cid ≡ cid.now → Covers heard.new.still places.now (heed_of var.now d.scope d.heeds) }
     ensures more { (l : LossTerm) → is_open heard.new.still l ≡ false → is_open heard.old.still l ≡ false }
 {
-    let place = place_near(connections, shift, cid);
+    let place = place_near(connections, lag, cid);
     let connection = &mut connections[place];
     let heed = connection.heed_of(var);
     heard.hear(heed, places);
@@ -136,6 +122,7 @@ fn wake_named(
 }
 
 /// Whether a waking is noted of the variable, after which the loss marks nothing more.
+#[inline(always)]
 fn is_noted(woken: &Option<Woken>, var: &Var, loss: &Loss) -> bool
     ensures { result ≡ true → (w : WokenTerm) × (woken.now ≡ Some w) × (w.var ≡ var.now) × (is_open w.still loss.now ≡ false) }
 {
@@ -151,6 +138,7 @@ fn is_noted(woken: &Option<Woken>, var: &Var, loss: &Loss) -> bool
 fn wake_each(
     connections: &mut Vec<Connection>,
     pending: &mut Flags,
+    known: &mut usize,
     cids: &[Cid],
     places: &Places,
     var: &Var,
@@ -164,19 +152,12 @@ fn wake_each(
     ensures flags { length pending.new.flags ≡ length pending.old.flags }
     ensures covers { (d : Connected) → Contains connections.old.items d → Contains cids.now d.cid → Covers result places.now (heed_of var.now d.scope d.heeds) }
 {
-    let mut shift = last_shift(connections);
+    let mut lag = *known;
     let mut heard = Heard::new(places);
     for cid in cids {
-        wake_named(
-            connections,
-            pending,
-            &mut shift,
-            &mut heard,
-            cid,
-            places,
-            var,
-        );
+        wake_named(connections, pending, &mut lag, &mut heard, cid, places, var);
     }
+    *known = lag;
     heard.still
 }
 
@@ -305,6 +286,7 @@ impl Agenda {
             shown: Vec::new(alloc),
             is_shown: false,
             woken: None,
+            lag: 0,
         }
     }
 
@@ -352,6 +334,7 @@ impl Agenda {
 
     /// A value of the variable was taken out: each constraint over it is pending, and its places of other variables are marked as
     /// it heeds the loss.
+    #[inline(always)]
     pub fn wake(&mut self, var: Var, loss: Loss)
         ensures connected { self.new.connected ≡ map (mark_others var loss) self.old.connected }
         ensures pending { (c : CidTerm) → Contains self.new.pending c ↔ (Contains self.old.pending c ⊎ IsOver self.old.connected var c) }
@@ -360,12 +343,23 @@ impl Agenda {
         if is_noted(&self.woken, &var, &loss) {
             return;
         }
+        self.wake_others(var, loss);
+    }
+
+    /// The same, whether it is noted that this changes nothing or not.
+    #[inline(never)]
+    fn wake_others(&mut self, var: Var, loss: Loss)
+        ensures connected { self.new.connected ≡ map (mark_others var loss) self.old.connected }
+        ensures pending { (c : CidTerm) → Contains self.new.pending c ↔ (Contains self.old.pending c ⊎ IsOver self.old.connected var c) }
+        ensures formed { IsFormed self.new }
+    {
         self.is_shown = false;
         self.woken = None;
         let cids = cids_over(&self.over, &var);
         let still = wake_each(
             &mut self.connections,
             &mut self.pending,
+            &mut self.lag,
             cids,
             &Places::Others(loss),
             &var,
@@ -386,6 +380,7 @@ impl Agenda {
         wake_each(
             &mut self.connections,
             &mut self.pending,
+            &mut self.lag,
             cids,
             &Places::Own { low, high },
             &var,
