@@ -7,3 +7,4 @@ pub mod Places
 pub mod Marks
 pub mod Losses
 pub mod Open
+pub mod Heard

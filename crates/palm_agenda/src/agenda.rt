@@ -7,6 +7,8 @@ ghost use Rattle.palm_base.specs.Order.{Rises, cid_before, IsPartedAt};
 ghost use Rattle.palm_model.specs.State.{without_cid};
 ghost use Rattle.palm_agenda.specs.Agenda.{Connected, HasPlace, IsConnected, IsFormed, IsOver, IsStanding, Takes, changed_among, changed_at, index_within, marked_whole, mark_others, mark_own, connected_cids, unmarked, with_connected, without_connected};
 ghost use Rattle.palm_agenda.specs.declared.mark.Mark.TheVariants.{Clear};
+ghost use Rattle.palm_agenda.specs.declared.loss.Loss.{Loss as LossTerm};
+ghost use Rattle.palm_agenda.specs.Heard.{IsHearing};
 ghost use Rattle.palm_agenda.specs.Losses.{heed_of};
 ghost use Rattle.palm_agenda.specs.Open.{Covers, is_open};
 ghost use Rattle.palm_agenda.specs.declared.agenda.Woken.{Woken as WokenTerm};
@@ -18,13 +20,14 @@ ghost use Rattle.palm_agenda.specs.Places.{mark_places};
 use crate::cids::Cids;
 use crate::connection::{Connection, Places};
 use crate::flags::{Flags, raised_from};
+use crate::heard::Heard;
 use crate::loss::Loss;
 use crate::mark::Mark;
 use crate::open::Open;
 use crate::order::Order;
 use crate::over::{cids_over, insert_over, make_room, remove_over};
 use crate::taken::Taken;
-use palm_base::{Cid, HasCid, NoMemory, Value, Var, place_from, place_of, stands_at};
+use palm_base::{Cid, HasCid, NoMemory, Value, Var, place_of, stands_at};
 use palm_filter::Heed;
 use std::alloc::Global;
 use std::marker::Model;
@@ -39,7 +42,8 @@ struct Woken {
 /// The connected constraints by rising id, a flag for each of them that is raised where it is pending, and the ids of
 /// the constraints over each variable. There is room for every id among those that an order is shown; where it is noted so
 /// they are those that are pending. The variable of which a loss woke constraints last is known while nothing was taken or
-/// unmarked since, and which losses of it may mark something more: another one changes nothing.
+/// unmarked since, and which losses of it may mark something more: another one changes nothing. The lag is how far behind
+/// its number the user's constraint stands that was looked for last; it wraps around.
 #[derive(Debug, Drop)]
 pub struct Agenda {
     connections: Vec<Connection>,
@@ -48,6 +52,7 @@ pub struct Agenda {
     shown: Vec<Cid>,
     is_shown: bool,
     woken: Option<Woken>,
+    lag: usize,
 }
 
 impl Model for Agenda {
@@ -65,86 +70,59 @@ impl Model for Agenda {
         × IsWoken a.woken a.connections.items (flagged (connected_cids a.connections.items) a.pending.flags) };
 }
 
-/// A connected constraint from which others are counted: its id, and where it stands.
-#[derive(Clone, Copy, Debug)]
-struct Known {
-    cid: Cid,
-    place: usize,
-}
-
-/// The last of the connected constraints.
-fn last_known(connections: &[Connection]) -> Known {
-    match connections.last() {
-        Some(last) => Known {
-            cid: last.cid(),
-            place: connections.len() - 1,
-        },
-        None => Known {
-            cid: Cid::Decide(Var(0)),
-            place: 0,
-        },
-    }
-}
-
-/// How many places before the one id the other one stands, where both are users' and each number between the two is
-/// taken. It wraps around.
+/// How many of the connected constraints have ids that come before this one. That of a user is looked for first where it
+/// stands if it lags behind its number as the last one did. Where it does not, its own lag is known from then on.
 #[inline(always)]
-fn places_between(known: Cid, cid: &Cid) -> usize {
-    match (known, cid) {
-        (Cid::User(known), Cid::User(number)) => (known as usize).wrapping_sub(*number as usize),
-        _ => 0,
-    }
-}
-
-/// Where the constraint stands, counted from the known one.
-#[inline(always)]
-fn guessed_place(known: &Known, cid: &Cid) -> usize {
-    known.place.wrapping_sub(places_between(known.cid, cid))
-}
-
-/// How many of the connected constraints have ids that come before this one, which is looked for first where it is
-/// guessed.
-#[inline(always)]
-fn place_near(connections: &[Connection], known: &Known, cid: &Cid) -> usize
+fn place_near(connections: &[Connection], lag: &mut usize, cid: &Cid) -> usize
     requires { Rises (connected_cids connections.now) }
     ensures { IsPartedAt (λ d. cid_before d.cid cid.now) connections.now result }
 {
-    let guess = guessed_place(known, cid);
+    let Cid::User(number) = cid else {
+        return place_of(connections, cid);
+    };
+    let guess = lag.wrapping_add(*number as usize);
     if stands_at(connections, guess, cid) {
-        guess
-    } else {
-        place_from(connections, known.place, cid)
+        return guess;
     }
+    let place = place_of(connections, cid);
+    *lag = place.wrapping_sub(*number as usize);
+    place
 }
 
-/// Makes the constraint pending, and marks these places of it, as seen from the variable. It is counted from the known
-/// one, and is known from then on. Answers how losses of the variable are heeded.
+/// Makes the constraint pending, and marks these places of it, as seen from the variable. It is looked for by the lag,
+/// and it is heard how it heeds losses of the variable.
+#[inline(always)]
 fn wake_named(
     connections: &mut Vec<Connection>,
     pending: &mut Flags,
-    known: &mut Known,
+    lag: &mut usize,
+    heard: &mut Heard,
     cid: &Cid,
     places: &Places,
     var: &Var,
-) -> Heed
+)
     requires rising { Rises (connected_cids connections.old.items) }
     requires flags { length pending.old.flags ≡ length connections.old.items }
     requires over { IsOver connections.old.items var.now cid.now }
+    requires hearing { IsHearing heard.old places.now }
     ensures marks { connections.new.items ≡ map (changed_at cid.now (mark_places places.now var.now)) connections.old.items }
     ensures pending { (c : CidTerm) → Contains (flagged (connected_cids connections.new.items) pending.new.flags) c
         ↔ (Contains (flagged (connected_cids connections.old.items) pending.old.flags) c ⊎ (c ≡ cid.now)) }
     ensures flags { length pending.new.flags ≡ length pending.old.flags }
-    ensures heed { (d : Connected) → Contains connections.old.items d → d.cid ≡ cid.now → result ≡ heed_of var.now d.scope d.heeds }
+    ensures hearing { IsHearing heard.new places.now }
+    ensures covers { (d : Connected) → Contains connections.old.items d → d.cid ≡ cid.now → Covers heard.new.still places.now (heed_of var.now d.scope d.heeds) }
+    ensures more { (l : LossTerm) → is_open heard.new.still l ≡ false → is_open heard.old.still l ≡ false }
 {
-    let place = place_near(connections, known, cid);
+    let place = place_near(connections, lag, cid);
     let connection = &mut connections[place];
-    let heed = connection.mark(places, var);
+    let heed = connection.heed_of(var);
+    heard.hear(heed, places);
+    connection.mark(places, var, &heard.change);
     pending.raise(place);
-    *known = Known { cid: *cid, place };
-    heed
 }
 
 /// Whether a waking is noted of the variable, after which the loss marks nothing more.
+#[inline(always)]
 fn is_noted(woken: &Option<Woken>, var: &Var, loss: &Loss) -> bool
     ensures { result ≡ true → (w : WokenTerm) × (woken.now ≡ Some w) × (w.var ≡ var.now) × (is_open w.still loss.now ≡ false) }
 {
@@ -156,9 +134,11 @@ fn is_noted(woken: &Option<Woken>, var: &Var, loss: &Loss) -> bool
 
 /// Makes each of the constraints pending, and marks these places of it, as seen from the variable. Answers which
 /// losses of the variable may mark something more.
+#[inline(always)]
 fn wake_each(
     connections: &mut Vec<Connection>,
     pending: &mut Flags,
+    known: &mut usize,
     cids: &[Cid],
     places: &Places,
     var: &Var,
@@ -172,13 +152,13 @@ fn wake_each(
     ensures flags { length pending.new.flags ≡ length pending.old.flags }
     ensures covers { (d : Connected) → Contains connections.old.items d → Contains cids.now d.cid → Covers result places.now (heed_of var.now d.scope d.heeds) }
 {
-    let mut known = last_known(connections);
-    let mut still = Open::none();
+    let mut lag = *known;
+    let mut heard = Heard::new(places);
     for cid in cids {
-        let heed = wake_named(connections, pending, &mut known, cid, places, var);
-        still.note_marked(heed, places);
+        wake_named(connections, pending, &mut lag, &mut heard, cid, places, var);
     }
-    still
+    *known = lag;
+    heard.still
 }
 
 /// Takes a mark of the constraint away.
@@ -306,6 +286,7 @@ impl Agenda {
             shown: Vec::new(alloc),
             is_shown: false,
             woken: None,
+            lag: 0,
         }
     }
 
@@ -353,6 +334,7 @@ impl Agenda {
 
     /// A value of the variable was taken out: each constraint over it is pending, and its places of other variables are marked as
     /// it heeds the loss.
+    #[inline(always)]
     pub fn wake(&mut self, var: Var, loss: Loss)
         ensures connected { self.new.connected ≡ map (mark_others var loss) self.old.connected }
         ensures pending { (c : CidTerm) → Contains self.new.pending c ↔ (Contains self.old.pending c ⊎ IsOver self.old.connected var c) }
@@ -361,12 +343,23 @@ impl Agenda {
         if is_noted(&self.woken, &var, &loss) {
             return;
         }
+        self.wake_others(var, loss);
+    }
+
+    /// The same, whether it is noted that this changes nothing or not.
+    #[inline(never)]
+    fn wake_others(&mut self, var: Var, loss: Loss)
+        ensures connected { self.new.connected ≡ map (mark_others var loss) self.old.connected }
+        ensures pending { (c : CidTerm) → Contains self.new.pending c ↔ (Contains self.old.pending c ⊎ IsOver self.old.connected var c) }
+        ensures formed { IsFormed self.new }
+    {
         self.is_shown = false;
         self.woken = None;
         let cids = cids_over(&self.over, &var);
         let still = wake_each(
             &mut self.connections,
             &mut self.pending,
+            &mut self.lag,
             cids,
             &Places::Others(loss),
             &var,
@@ -387,6 +380,7 @@ impl Agenda {
         wake_each(
             &mut self.connections,
             &mut self.pending,
+            &mut self.lag,
             cids,
             &Places::Own { low, high },
             &var,
@@ -452,6 +446,7 @@ impl Agenda {
 
     /// The constraint that is revised next, which is pending no longer: the first one without an order, and with one
     /// the one that it answers when it is asked once. It is not asked where none is pending.
+    #[inline(always)]
     pub fn take<O: Order>(&mut self, order: &mut Option<O>) -> Option<Taken>
         ensures none { IfNone result ((self.old.pending ≡ []) × (self.new ≡ self.old) × (order.new ≡ order.old)) }
         ensures standing { IfSome result (IsStanding self.old.connected) }
@@ -470,6 +465,7 @@ impl Agenda {
     }
 
     /// The first pending constraint, which is pending no longer.
+    #[inline(always)]
     fn take_first(&mut self) -> Option<Taken>
         ensures none { IfNone result ((self.old.pending ≡ []) × (self.new ≡ self.old)) }
         ensures standing { IfSome result (IsStanding self.old.connected) }
@@ -485,6 +481,7 @@ impl Agenda {
 
     /// The pending constraint that the order answers when it is asked once, which is pending no longer. The order is not
     /// asked where none is pending.
+    #[inline(never)]
     fn take_answered<O: Order>(&mut self, order: &mut O) -> Option<Taken>
         ensures none { IfNone result ((self.old.pending ≡ []) × (self.new ≡ self.old) × (order.new ≡ order.old)) }
         ensures standing { IfSome result (IsStanding self.old.connected) }

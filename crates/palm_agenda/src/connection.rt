@@ -1,13 +1,14 @@
 //! One constraint of an agenda.
 ghost use Rattle.std.specs.Prelude.{◌≡◌, ◌<◌, length, true, Contains, IfOk, slice_index_or, slice_set};
-ghost use Rattle.palm_agenda.specs.declared.mark.Mark.{Mark as MarkTerm};
 ghost use Rattle.palm_agenda.specs.declared.mark.Mark.TheVariants.{Clear};
 ghost use Rattle.palm_agenda.specs.Agenda.{HasMarks, changed_where, marked_whole, unmarked};
+ghost use Rattle.palm_agenda.specs.Heard.{ChangesAt};
 ghost use Rattle.palm_agenda.specs.Losses.{heed_of};
-ghost use Rattle.palm_agenda.specs.Places.{is_place, mark_at, mark_places};
+ghost use Rattle.palm_agenda.specs.Marks.{changed};
+ghost use Rattle.palm_agenda.specs.Places.{is_place, mark_places};
 
 use crate::loss::Loss;
-use crate::mark::Mark;
+use crate::mark::{Change, Mark};
 use palm_base::{Cid, HasCid, NoMemory, Value, Var, VarList};
 use palm_filter::Heed;
 use std::alloc::Global;
@@ -54,6 +55,7 @@ impl HasCid for Connection {
 }
 
 /// Whether a place with the variable `at` is one of the places, as seen from the variable `var`.
+#[inline(always)]
 fn is_place(places: &Places, var: &Var, at: &Var) -> bool
     ensures { result ≡ is_place places.now var.now at.now }
 {
@@ -63,32 +65,27 @@ fn is_place(places: &Places, var: &Var, at: &Var) -> bool
     }
 }
 
-/// What becomes of the mark of one of the places, where losses are heeded so.
-fn mark_at(places: &Places, heed: Heed, mark: Mark) -> Mark
-    ensures { result ≡ mark_at places.now heed mark }
+/// What is done to the mark of one of the places, where losses are heeded so.
+#[inline(always)]
+pub(crate) fn change_at(places: &Places, heed: Heed) -> Change
+    ensures { ChangesAt result places.now heed }
 {
     match places {
-        Places::Own { low, high } => mark.widened(*low, *high),
-        Places::Others(loss) => loss.mark_after(heed, mark),
+        Places::Own { low, high } => Change::Widens {
+            low: *low,
+            high: *high,
+        },
+        Places::Others(loss) => loss.change(heed),
     }
 }
 
-/// Whether the marks stay as they are, where losses are heeded so.
-fn leaves_alone(places: &Places, heed: &Heed) -> bool
-    ensures { result ≡ true → (mark : MarkTerm) → mark_at places.now heed.now mark ≡ mark }
-{
-    match places {
-        Places::Own { .. } => false,
-        Places::Others(loss) => !loss.matters(*heed),
-    }
-}
-
-/// Marks one of the places.
-fn mark_one(marks: &mut Vec<Mark>, place: usize, places: &Places, heed: &Heed)
+/// Changes the mark of a place.
+#[inline(always)]
+fn mark_one(marks: &mut Vec<Mark>, place: usize, change: &Change)
     requires { place < length marks.old.items }
-    ensures { marks.new.items ≡ slice_set marks.old.items place (mark_at places.now heed.now (slice_index_or marks.old.items place Clear)) }
+    ensures { marks.new.items ≡ slice_set marks.old.items place (changed change.now (slice_index_or marks.old.items place Clear)) }
 {
-    let mark = mark_at(places, *heed, marks[place]);
+    let mark = change.after(marks[place]);
     marks[place] = mark;
 }
 
@@ -136,7 +133,8 @@ impl Connection {
     }
 
     /// How losses of the variable are heeded.
-    fn heed_of(&self, var: &Var) -> Heed
+    #[inline(always)]
+    pub(crate) fn heed_of(&self, var: &Var) -> Heed
         ensures { result ≡ heed_of var.now self.now.scope self.now.heeds }
     {
         for place in 0..self.scope.len() {
@@ -147,27 +145,28 @@ impl Connection {
         Heed::Each
     }
 
-    /// Marks each of these places, as seen from the variable, over which the constraint is. Answers how losses of the variable are
-    /// heeded.
-    pub(crate) fn mark(&mut self, places: &Places, var: &Var) -> Heed
-        requires { Contains self.old.scope var.now }
-        ensures marked { self.new ≡ mark_places places.now var.now self.old }
-        ensures heed { result ≡ heed_of var.now self.old.scope self.old.heeds }
+    /// Marks each of these places, as seen from the variable, over which the constraint is. The change is that of a
+    /// constraint that heeds losses of the variable as this one does.
+    #[inline(always)]
+    pub(crate) fn mark(&mut self, places: &Places, var: &Var, change: &Change)
+        requires over { Contains self.old.scope var.now }
+        requires changes { ChangesAt change.now places.now (heed_of var.now self.old.scope self.old.heeds) }
+        ensures { self.new ≡ mark_places places.now var.now self.old }
     {
-        let heed = self.heed_of(var);
-        if !leaves_alone(places, &heed) {
-            self.mark_each(places, var, &heed);
+        match change {
+            Change::Keeps => {}
+            Change::Widens { .. } | Change::Fills => self.mark_each(places, var, change),
         }
-        heed
     }
 
-    /// Marks each of these places, as seen from the variable, where losses are heeded so.
-    fn mark_each(&mut self, places: &Places, var: &Var, heed: &Heed)
-        ensures { self.new ≡ changed_where (is_place places.now var.now) (mark_at places.now heed.now) self.old }
+    /// Changes the mark of each of these places, as seen from the variable.
+    #[inline(always)]
+    fn mark_each(&mut self, places: &Places, var: &Var, change: &Change)
+        ensures { self.new ≡ changed_where (is_place places.now var.now) (changed change.now) self.old }
     {
         for place in 0..self.scope.len() {
             if is_place(places, var, &self.scope.as_slice()[place]) {
-                mark_one(&mut self.marks, place, places, heed);
+                mark_one(&mut self.marks, place, change);
             }
         }
     }

@@ -154,6 +154,7 @@ impl Flags {
     }
 
     /// Lowers the first flag that is raised, and tells its place.
+    #[inline(always)]
     pub(crate) fn lower_first(&mut self) -> Option<usize>
         ensures { MatchOption result
             ((count_raised self.old.flags ≡ 0) × (self.new ≡ self.old))

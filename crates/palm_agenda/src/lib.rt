@@ -6,6 +6,7 @@ mod agenda;
 mod cids;
 mod connection;
 mod flags;
+mod heard;
 mod loss;
 mod mark;
 mod open;

@@ -1,8 +1,10 @@
 //! What a removal leaves of the values of its variable.
 ghost use Rattle.std.specs.Prelude.{◌≡◌};
+ghost use Rattle.palm_agenda.specs.declared.mark.Mark.{Mark as MarkTerm};
 ghost use Rattle.palm_agenda.specs.Losses.{mark_after, matters, shifted};
+ghost use Rattle.palm_agenda.specs.Marks.{changed};
 
-use crate::mark::Mark;
+use crate::mark::Change;
 use palm_base::Value;
 use palm_filter::Heed;
 use palm_model::number_of;
@@ -34,27 +36,30 @@ impl Loss {
         }
     }
 
-    /// What it makes of the mark of another variable's place.
+    /// What it does to the mark of another variable's place, where it is heeded so.
     #[inline(always)]
-    pub(crate) fn mark_after(&self, heed: Heed, mark: Mark) -> Mark
-        ensures { result ≡ mark_after heed self.now mark }
+    pub(crate) fn change(&self, heed: Heed) -> Change
+        ensures { (mark : MarkTerm) → changed result mark ≡ mark_after heed self.now mark }
     {
         match heed {
-            Heed::Shifted(by) => shifted(mark, &self.value, by),
-            _ if self.matters(heed) => Mark::Whole,
-            _ => mark,
+            Heed::Shifted(by) => shifted(&self.value, by),
+            _ if self.matters(heed) => Change::Fills,
+            _ => Change::Keeps,
         }
     }
 }
 
-/// The mark, and the value that is more by this number besides. Where no value is, all are marked.
-fn shifted(mark: Mark, value: &Value, by: i32) -> Mark
-    ensures { result ≡ shifted by value.now mark }
+/// That a mark names the value besides that is more by this number, and where no value is, all.
+fn shifted(value: &Value, by: i32) -> Change
+    ensures { (mark : MarkTerm) → changed result mark ≡ shifted by value.now mark }
 {
     let number = number_of(value) + i64::from(by);
     if number < i64::from(i32::MIN) || i64::from(i32::MAX) < number {
-        return Mark::Whole;
+        return Change::Fills;
     }
     let moved = Value(number as i32);
-    mark.widened(moved, moved)
+    Change::Widens {
+        low: moved,
+        high: moved,
+    }
 }

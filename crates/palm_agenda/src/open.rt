@@ -3,9 +3,8 @@ ghost use Rattle.std.specs.Prelude.{◌≡◌, false};
 ghost use Rattle.palm_agenda.specs.declared.loss.Loss.{Loss as LossTerm};
 ghost use Rattle.palm_agenda.specs.declared.mark.Mark.{Mark as MarkTerm};
 ghost use Rattle.palm_agenda.specs.Losses.{mark_after};
-ghost use Rattle.palm_agenda.specs.Open.{Covers, is_open};
+ghost use Rattle.palm_agenda.specs.Open.{is_open};
 
-use crate::connection::Places;
 use crate::loss::Loss;
 use palm_filter::Heed;
 
@@ -64,17 +63,6 @@ impl Open {
             }
             Heed::Alone => self.alone |= loss.several,
             Heed::Shifted(_) => self.each = true,
-        }
-    }
-
-    /// Notes a constraint that heeds losses so, and of which these places were marked.
-    #[inline(always)]
-    pub(crate) fn note_marked(&mut self, heed: Heed, places: &Places)
-        ensures more { (l : LossTerm) → is_open self.new l ≡ false → is_open self.old l ≡ false }
-        ensures covers { Covers self.new places.now heed }
-    {
-        if let Places::Others(loss) = places {
-            self.note(heed, loss);
         }
     }
 }

@@ -73,6 +73,18 @@ up_same d fewer more x by low next y cases same up = record {
   ];
 }
 
+-- a variable with two values leaves each value free
+pub up_two : (d : Domains) (fewer more : List ℕ) (x : ℕ) (by low : ℤ) (next : Option ℤ) (y : ℕ) → ((z : ℕ) → Contains more z → Contains fewer z ⊎ (y ≡ z)) → HasTwo d y → LeavesUpTo d fewer x by low next
+    → LeavesUpTo d more x by low next
+up_two d fewer more x by low next y cases two up = record {
+  present = up.present;
+  from = up.from;
+  free = λ w has le is z m other. elim (cases z m) [
+    | inl n ↦ up.free w has le is z n other
+    | inr e ↦ subst (λ k. HasOther d k (w -ℤ by)) e (other_of_two d y (w -ℤ by) two)
+  ];
+}
+
 pub up_more : (d : Domains) (fewer more : List ℕ) (x : ℕ) (by low : ℤ) (a b : Option ℤ) (y : ℕ) → ((z : ℕ) → Contains more z → Contains fewer z ⊎ (y ≡ z)) → LeavesUpTo d fewer x by low a → LeavesUpTo d (y ∷ []) x by low b
     → LeavesUpTo d more x by low (lesser_of a b)
 up_more d fewer more x by low a b y cases up one = record {

@@ -73,11 +73,6 @@ fn hit_at(store: &DomainStore, other: Var, var: Var, by: i32, from: Value) -> Op
     ensures some { IfSome result (λ hit. Has (present_of store.now) var hit × (from ≤ℤ hit)
         × ((v : ℤ) → v ≢ hit → HasOther (present_of store.now) other (v -ℤ by))) }
 {
-    // A store's values ascend, as `variables` tells, so that two of them differ.
-    prove!(store.variables() > 0);
-    if store.count(other) != 1 {
-        return None;
-    }
     let number = raised(&store.least(other), by);
     let values = store.initial_values(var);
     let value = value_between(number, &from, &values[values.len() - 1])?;
@@ -109,7 +104,7 @@ fn next_hit(store: &DomainStore, vars: &[Var], var: Var, by: i32, from: Value) -
 {
     let mut next = None;
     for other in vars {
-        if *other != var {
+        if *other != var && !has_two(store, other) {
             next = lesser(next, hit_at(store, *other, var, by, from));
         }
     }

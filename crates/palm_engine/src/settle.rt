@@ -43,6 +43,7 @@ fn is_reached(limit: Option<u64>, ran: u64) -> bool
 }
 
 /// Takes the constraint that is revised next, while no domain is empty and the limit is not reached.
+#[inline(always)]
 pub(crate) fn take_next<O: Order>(
     filtering: &mut Filtering,
     order: &mut Option<O>,
@@ -80,6 +81,7 @@ pub(crate) fn tell<O: Order>(order: &mut Option<O>, cid: &Cid, removed: usize)
 
 /// Revises the constraint that was taken, and answers how many values that took out. Without memory the constraint is
 /// pending again.
+#[inline(always)]
 pub(crate) fn run_revision<F: Filter, L: Ledger>(
     filtering: &mut Filtering,
     posted: &[Posted<F>],

@@ -32,7 +32,7 @@ use Rattle.palm_agenda.specs.declared.connection.Places.TheVariants.{Own, Others
 use Rattle.palm_agenda.proofs.cited.Connecting.{cid_of, cid_connected, cids_with, cids_without, over_connected, over_with, over_without, stands, connected_at, disconnected_at, with_connected_cases, without_connected_member, sorted_connected}
 use Rattle.palm_agenda.proofs.Flagged.{flagged_length, flagged_member, flagged_rises, inserted_set, lowered_without, raised_set, removed_lowered, first_flagged}
 use Rattle.palm_agenda.proofs.Heeding.{after_twice}
-use Rattle.palm_agenda.proofs.cited.Marking.{marks_again, marks_alone, marks_length, marks_none, widened_twice}
+use Rattle.palm_agenda.proofs.cited.Marking.{marks_again, marks_alike, marks_alone, marks_length, marks_none, widened_twice}
 use Rattle.palm_base.proofs.cited.RisingLists.{with_cid_rises, rising}
 use Rattle.palm_agenda.proofs.CidLists.{filter_short, member_reverse, reverse_member}
 use Rattle.palm_agenda.proofs.Rows.{front_last, front_more, row_within}
@@ -309,6 +309,12 @@ places_over (Others loss) x d over = sym (if_true (is_over x d) (others_after x 
 pub places_alone : (places : Places) (x : ℕ) (d : Connected) → Contains d.scope x → ((mark : Mark) → mark_at places (heed_of x d.scope d.heeds) mark ≡ mark) → d ≡ mark_places places x d
 places_alone places x d over alone =
     sym (ap (λ marks. record d { marks = marks }) (marks_alone (is_place places x) (mark_at places (heed_of x d.scope d.heeds)) alone d.scope d.marks)) ∙ places_over places x d over
+
+-- where a change makes the same of each mark, it marks the places
+pub places_marked : (places : Places) (x : ℕ) (d : Connected) → Contains d.scope x → (change : Mark → Mark) → ((mark : Mark) → change mark ≡ mark_at places (heed_of x d.scope d.heeds) mark)
+    → changed_where (is_place places x) change d ≡ mark_places places x d
+places_marked places x d over change alike =
+    ap (λ marks. record d { marks = marks }) (marks_alike (is_place places x) change (mark_at places (heed_of x d.scope d.heeds)) alike d.scope d.marks) ∙ places_over places x d over
 
 -- ---- a change at one place
 

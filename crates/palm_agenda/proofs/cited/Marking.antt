@@ -68,6 +68,14 @@ marks_alone test change alone (x ∷ scope) (m ∷ marks) =
     either true = alone m
     either false = refl
 
+-- changes that make the same of each mark
+pub marks_alike : (test : ℕ → Bool) (change other : Mark → Mark) → ((mark : Mark) → change mark ≡ other mark) → (scope : List ℕ) (marks : List Mark) → marks_changed test change scope marks ≡ marks_changed test other scope marks
+marks_alike test change other alike [] marks = refl
+marks_alike test change other alike (x ∷ scope) [] = refl
+marks_alike test change other alike (x ∷ scope) (m ∷ marks) =
+    ap (λ mark. (if test x then mark else m) ∷ marks_changed test change scope marks) (alike m)
+    ∙ ap (λ ms. (if test x then other m else m) ∷ ms) (marks_alike test change other alike scope marks)
+
 -- changing again, by a change that adds nothing to the first one, changes nothing
 pub marks_again : (test : ℕ → Bool) (change more : Mark → Mark) → ((mark : Mark) → more (change mark) ≡ change mark) → (scope : List ℕ) (marks : List Mark)
     → marks_changed test more scope (marks_changed test change scope marks) ≡ marks_changed test change scope marks

@@ -15,23 +15,24 @@ loop-cid-init c = record {
   marks = changed_none (mark_places c.args.places.now c.args.var.now) c.args.connections.now.items;
   pending = none_put (flagged (connected_cids c.args.connections.now.items) c.args.pending.now.flags);
   covers = λ d listed among. absurd (member_nil d.cid among);
+  hearing = c.new-heard.ensures;
   flags = refl;
 }
 
-pub wake_named-heed-requires-clause-rising : goal.wake_named-heed-requires-clause-rising
-wake_named-heed-requires-clause-rising c =
+pub wake_named-requires-clause-rising : goal.wake_named-requires-clause-rising
+wake_named-requires-clause-rising c =
     rises_changed (changed_among (take c.loop-cid.cid-index c.args.cids.now) (mark_places c.args.places.now c.args.var.now))
     (keeps_among (take c.loop-cid.cid-index c.args.cids.now) (mark_places c.args.places.now c.args.var.now) (keeps_places c.args.places.now c.args.var.now))
     c.args.connections.now.items c.loop-cid.connections.items c.loop-cid.invariant.marks c.requires.rising
 
-pub wake_named-heed-requires-clause-flags : goal.wake_named-heed-requires-clause-flags
-wake_named-heed-requires-clause-flags c =
+pub wake_named-requires-clause-flags : goal.wake_named-requires-clause-flags
+wake_named-requires-clause-flags c =
     c.loop-cid.invariant.flags ∙ c.requires.flags
     ∙ sym (length-map c.args.connections.now.items (changed_among (take c.loop-cid.cid-index c.args.cids.now) (mark_places c.args.places.now c.args.var.now)))
     ∙ ap length (sym c.loop-cid.invariant.marks)
 
-pub wake_named-heed-requires-clause-over : goal.wake_named-heed-requires-clause-over
-wake_named-heed-requires-clause-over c =
+pub wake_named-requires-clause-over : goal.wake_named-requires-clause-over
+wake_named-requires-clause-over c =
     over_changed (changed_among (take c.loop-cid.cid-index c.args.cids.now) (mark_places c.args.places.now c.args.var.now))
     (keeps_among (take c.loop-cid.cid-index c.args.cids.now) (mark_places c.args.places.now c.args.var.now) (keeps_places c.args.places.now c.args.var.now))
     c.args.connections.now.items c.loop-cid.connections.items c.args.var.now c.cid-item.result c.loop-cid.invariant.marks
@@ -40,19 +41,20 @@ wake_named-heed-requires-clause-over c =
 pub loop-cid-preserved : goal.loop-cid-preserved
 loop-cid-preserved c = record {
   marks =
-      c.wake_named-heed.ensures.marks ∙ ap (map (changed_at c.cid-item.result (mark_places c.args.places.now c.args.var.now))) c.loop-cid.invariant.marks
+      c.wake_named.ensures.marks ∙ ap (map (changed_at c.cid-item.result (mark_places c.args.places.now c.args.var.now))) c.loop-cid.invariant.marks
       ∙ marked_more c.args.places.now c.args.var.now c.args.cids.now c.loop-cid.cid-index c.cid-item.result c.args.connections.now.items c.loop-cid-test.true c.cid-item.is;
   pending =
       put_set (flagged (connected_cids c.args.connections.now.items) c.args.pending.now.flags) (flagged (connected_cids c.loop-cid.connections.items) c.loop-cid.pending.flags)
-      (flagged (connected_cids c.wake_named-heed.new.connections.items) c.wake_named-heed.new.pending.flags) c.args.cids.now c.loop-cid.cid-index c.cid-item.result c.loop-cid-test.true c.cid-item.is
-      c.loop-cid.invariant.pending c.wake_named-heed.ensures.pending;
+      (flagged (connected_cids c.wake_named.new.connections.items) c.wake_named.new.pending.flags) c.args.cids.now c.loop-cid.cid-index c.cid-item.result c.loop-cid-test.true c.cid-item.is
+      c.loop-cid.invariant.pending c.wake_named.ensures.pending;
   covers = heeds_more (changed_among (take c.loop-cid.cid-index c.args.cids.now) (mark_places c.args.places.now c.args.var.now))
       (keeps_among (take c.loop-cid.cid-index c.args.cids.now) (mark_places c.args.places.now c.args.var.now) (keeps_places c.args.places.now c.args.var.now))
       c.args.var.now c.args.connections.now.items c.loop-cid.connections.items c.loop-cid.invariant.marks c.args.cids.now c.loop-cid.cid-index c.cid-item.result c.loop-cid-test.true c.cid-item.is
-      (Covers c.note_marked.new.self c.args.places.now)
-      (λ d listed among. covers_more c.loop-cid.still c.note_marked.new.self c.note_marked.ensures.more c.args.places.now (heed_of c.args.var.now d.scope d.heeds) (c.loop-cid.invariant.covers d listed among))
-      (λ d listed named. subst (Covers c.note_marked.new.self c.args.places.now) (c.wake_named-heed.ensures.heed d listed named) c.note_marked.ensures.covers);
-  flags = c.wake_named-heed.ensures.flags ∙ c.loop-cid.invariant.flags;
+      (Covers c.wake_named.new.heard.still c.args.places.now)
+      (λ d listed among. covers_more c.loop-cid.heard.still c.wake_named.new.heard.still c.wake_named.ensures.more c.args.places.now (heed_of c.args.var.now d.scope d.heeds) (c.loop-cid.invariant.covers d listed among))
+      c.wake_named.ensures.covers;
+  hearing = c.wake_named.ensures.hearing;
+  flags = c.wake_named.ensures.flags ∙ c.loop-cid.invariant.flags;
 }
 
 pub returns-clause-pending : goal.returns-clause-pending

@@ -4,15 +4,8 @@ use Rattle.std.proofs.lemmas.Int.{to_z-of_z}
 use Rattle.palm_base.proofs.cited.Telling.{tells_false, tells_true}
 use Rattle.palm_domain.specs.Rows.{IsPresent, present_of}
 use Rattle.palm_model.specs.Domains.{Has}
-use Rattle.palm_model.proofs.cited.Ascending.{ascends_at}
-use Rattle.palm_engine.proofs.Hits.{two_differ, other_of_two, other_by, up_to_last, if_none}
+use Rattle.palm_engine.proofs.Hits.{other_by, up_to_last, if_none}
 use Rattle.palm_engine.proofs.apart.hit_at.Goals as goal
-
-pub returns-then-count-ne1-clause-none : goal.returns-then-count-ne1-clause-none
-returns-then-count-ne1-clause-none c = λ v has le.
-    let d = present_of c.args.store.now in
-    let two = two_differ d c.args.other (ascends_at d c.args.other c.variables.ensures.present_ascend) (omega (arith, c.count.ensures, c.requires.filled, c.if-count-ne1.true)) in
-    other_of_two d c.args.other (v -ℤ c.args.by) two
 
 pub returns-in_err-value-clause-none : goal.returns-in_err-value-clause-none
 returns-in_err-value-clause-none c = if_none c.from_residual.result (λ v has le.

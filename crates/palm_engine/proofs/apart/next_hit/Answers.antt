@@ -5,9 +5,9 @@ use Rattle.std.proofs.lemmas.Int.{to_z-of_z}
 use Rattle.std.proofs.lemmas.List.{take_all}
 use Rattle.palm_base.proofs.cited.Members.{member_take_more}
 use Rattle.palm_domain.specs.Rows.{present_of}
-use Rattle.palm_engine.proofs.Hits.{LeavesUpTo, up_same, up_more, up_one, up_whole_none, up_whole_some}
+use Rattle.palm_engine.proofs.Hits.{LeavesUpTo, up_same, up_two, up_more, up_one, up_whole_none, up_whole_some}
 use Rattle.palm_engine.proofs.apart.next_hit.Goals as goal
-use Rattle.palm_engine.proofs.apart.next_hit.Goals.{then-ne, else-ne}
+use Rattle.palm_engine.proofs.apart.next_hit.Goals.{then-ne+then-not-has_two, else-ne, else-ne-via-then-ne+else-not-has_two, else-ne-via-else-ne}
 
 pub loop-other-preserved : goal.loop-other-preserved
 loop-other-preserved c =
@@ -17,15 +17,19 @@ loop-other-preserved c =
     let by = to_z w32 (of_z w32 c.args.by) in
     let cases = λ (z : ℕ) (m : Contains (take (i + 1) vars) z). member_take_more vars i c.other-item.result z c.loop-other-test.true c.other-item.is m in
     elim c.if-ne.branch [
-      | then-ne w ↦
+      | then-ne+then-not-has_two w ↦
           let one = up_one d c.args.var _ c.args.from w.hit_at.result c.other-item.result w.hit_at.ensures.none w.hit_at.ensures.some in
           subst (λ n. LeavesUpTo d (take (i + 1) vars) c.args.var by c.args.from n) (sym (w.next-is ∙ w.lesser-next.ensures))
           (up_more d (take i vars) (take (i + 1) vars) c.args.var by c.args.from c.loop-other.next w.hit_at.result c.other-item.result cases c.loop-other.invariant one)
       | else-ne w ↦
-          let is : not (eqb c.other-item.result c.args.var) ≡ false = sym w.if-ne.ensures in
-          let same = (Decides-eqb c.other-item.result c.args.var).0 (not-false (eqb c.other-item.result c.args.var) is) in
-          subst (λ n. LeavesUpTo d (take (i + 1) vars) c.args.var by c.args.from n) (sym w.next-is)
-          (up_same d (take i vars) (take (i + 1) vars) c.args.var by c.args.from c.loop-other.next c.other-item.result cases same c.loop-other.invariant)
+          subst (λ n. LeavesUpTo d (take (i + 1) vars) c.args.var by c.args.from n) (sym w.next-is) (elim w.else-ne.branch [
+            | else-ne-via-then-ne+else-not-has_two u ↦
+                up_two d (take i vars) (take (i + 1) vars) c.args.var by c.args.from c.loop-other.next c.other-item.result cases (u.has_two.ensures u.if-not-has_two.false) c.loop-other.invariant
+            | else-ne-via-else-ne u ↦
+                let is : not (eqb c.other-item.result c.args.var) ≡ false = sym u.if-ne.ensures in
+                let same = (Decides-eqb c.other-item.result c.args.var).0 (not-false (eqb c.other-item.result c.args.var) is) in
+                up_same d (take i vars) (take (i + 1) vars) c.args.var by c.args.from c.loop-other.next c.other-item.result cases same c.loop-other.invariant
+          ])
     ]
 
 pub returns-clause-none : goal.returns-clause-none

@@ -1,9 +1,13 @@
-use Rattle.std.proofs.Common.{◌≡◌, subst}
-use Rattle.palm_agenda.specs.Places.{mark_at}
-use Rattle.palm_agenda.proofs.cited.Keeping.{places_alone}
+use Rattle.std.proofs.Common.{ap, sym, ◌∙◌}
+use Rattle.palm_agenda.specs.Marks.{changed}
+use Rattle.palm_agenda.proofs.cited.Keeping.{places_alone, places_marked}
 use Rattle.palm_agenda.proofs.connection.Connection.mark.Goals as goal
 
-pub returns-else-not-leaves_alone-clause-marked : goal.returns-else-not-leaves_alone-clause-marked
-returns-else-not-leaves_alone-clause-marked c =
-    places_alone c.args.places.now c.args.var.now c.args.self.now c.requires
-    (λ mark. subst (λ heed. mark_at c.args.places.now heed mark ≡ mark) c.heed_of-heed.ensures (c.leaves_alone.ensures c.if-not-leaves_alone.false mark))
+pub returns-in-Keeps : goal.returns-in-Keeps
+returns-in-Keeps c =
+    places_alone c.args.places.now c.args.var.now c.args.self.now c.requires.over
+    (λ mark. sym (c.requires.changes mark) ∙ ap (λ change. changed change mark) c.in-Keeps.is)
+
+pub returns-in-Widens : goal.returns-in-Widens
+returns-in-Widens c =
+    c.mark_each.ensures ∙ places_marked c.args.places.now c.args.var.now c.args.self.now c.requires.over (changed c.args.change.now) c.requires.changes

@@ -1,6 +1,7 @@
 use Rattle.std.proofs.Common.{◌≡◌, length, take}
 use Rattle.palm_agenda.specs.Agenda.{marks_changed}
-use Rattle.palm_agenda.specs.Places.{is_place, mark_at}
+use Rattle.palm_agenda.specs.Marks.{changed}
+use Rattle.palm_agenda.specs.Places.{is_place}
 use Rattle.palm_agenda.proofs.connection.Connection.mark_each.Given as goal
 
 -- the places so far are marked where they are to be
@@ -10,5 +11,5 @@ invariant-loop-place l = record {
   scope : l.self-inside.scope ≡ l.initial.self-inside.scope;
   heeds : l.self-inside.heeds ≡ l.initial.self-inside.heeds;
   long : length l.self-inside.marks.items ≡ length l.self-inside.scope;
-  marked : l.self-inside.marks.items ≡ marks_changed (is_place l.places l.var) (mark_at l.places l.heed) (take l.place l.self-inside.scope) l.initial.self-inside.marks.items;
+  marked : l.self-inside.marks.items ≡ marks_changed (is_place l.places l.var) (changed l.change) (take l.place l.self-inside.scope) l.initial.self-inside.marks.items;
 }
