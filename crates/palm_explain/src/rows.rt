@@ -1,5 +1,5 @@
 //! The numbers of removed pairs, in a row for each variable, so that none is looked up by hashing.
-ghost use Rattle.std.specs.Prelude.{◌≡◌, ◌≢◌, ◌⊎◌, ℕ, ℤ, ◌+◌, ◌<◌, ◌≤◌, true, None, Some, [], ◌∷◌, length, slice_get, slice_index_or, IfNone, IfSome, MatchOption, OnErr, OnOk};
+ghost use Rattle.std.specs.Prelude.{◌≡◌, ◌≢◌, ◌⊎◌, ℕ, ℤ, ◌+◌, ◌-◌, ◌<◌, ◌≤◌, true, None, Some, [], ◌∷◌, length, slice_get, slice_index_or, IfNone, IfSome, MatchOption, OnErr, OnOk};
 ghost use Rattle.palm_base.specs.Ascending.{Ascends};
 ghost use Rattle.palm_base.specs.declared.terms.Pair.{Pair as PairTerm};
 ghost use Rattle.palm_explain.specs.Restored.{KeepsNumbers, slot_at};
@@ -112,6 +112,17 @@ impl Row {
             return place;
         }
         self.values.partition_point(|value| *value < low)
+    }
+
+    /// Whether so many values from a place on end with this one.
+    #[inline(always)]
+    pub(crate) fn reaches(&self, start: usize, count: usize, high: Value) -> bool
+        requires { 0 < count }
+        ensures { result ≡ true → StandsAt self.now high (start + count - 1) }
+    {
+        start < self.values.len()
+            && count <= self.values.len() - start
+            && self.has_at(start + (count - 1), high)
     }
 
     /// The first place from this one on whose value is at most `high`, and was removed before the number.

@@ -17,7 +17,7 @@ use crate::naming::names_at;
 use crate::needing::{add_needed, cids_of};
 use crate::restored::Restored;
 use crate::rows::{NO_NUMBER, Row, declare_values, number_of, put_number};
-use crate::spans::{Span, count_of, reason_in, spans_of};
+use crate::spans::{Span, count_of, push_spans, reason_in, spans_of};
 use crate::withdrawing::close_up;
 use palm_base::{Cid, CidList, NoMemory, Pair, Value, Var};
 use palm_domain::DomainStore;
@@ -153,6 +153,21 @@ impl ExplainStore {
     {
         let entry = &self.log[place];
         reason_in(&self.rows, entry.spans.as_slice(), entry.number, index)
+    }
+
+    /// Makes `out` the reasons of the removal at a place; without memory `out` is empty.
+    pub fn reasons(&self, place: usize, out: &mut Vec<Pair>) -> Result<(), NoMemory>
+        requires { place < length self.now.log }
+        ensures ok { OnOk result (out.new.items ≡ reasons_of self.now.log place) }
+        ensures err { OnErr result (out.new.items ≡ []) }
+    {
+        out.clear();
+        let entry = &self.log[place];
+        let pushed = push_spans(&self.rows, entry.spans.as_slice(), entry.number, out);
+        if pushed.is_err() {
+            out.clear();
+        }
+        pushed
     }
 
     /// The place of a pair's removal.
