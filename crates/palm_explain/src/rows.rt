@@ -168,6 +168,7 @@ impl Row {
     }
 
     /// Sets the number of a value; without memory nothing changes.
+    #[inline(always)]
     fn put(&mut self, value: Value, number: usize) -> Result<(), NoMemory>
         requires { IsFormedRow self.old }
         ensures formed { IsFormedRow self.new }
@@ -218,7 +219,7 @@ pub(crate) fn number_near(rows: &[Row], pair: &Pair, near: &mut usize) -> Option
     requires { AreFormedRows rows.now }
     ensures { result ≡ number_at rows.now pair.now }
 {
-    let row = rows.get(pair.var.0 as usize)?;
+    let row = row_at(rows, pair.var)?;
     row.number_near(pair.value, near)
 }
 
@@ -239,15 +240,6 @@ pub(crate) fn row_of(rows: &[Row], var: Var) -> &Row
     &rows[var.0 as usize]
 }
 
-/// The number under which the pair was entered last.
-pub(crate) fn number_of(rows: &[Row], pair: &Pair) -> Option<usize>
-    requires { AreFormedRows rows.now }
-    ensures { result ≡ number_at rows.now pair.now }
-{
-    let mut near = 0;
-    number_near(rows, pair, &mut near)
-}
-
 /// Makes a row for each of the first variables, so many of them; all numbers stay.
 #[inline(always)]
 fn reach(rows: &mut Vec<Row>, variables: usize) -> Result<(), NoMemory>
@@ -264,6 +256,7 @@ fn reach(rows: &mut Vec<Row>, variables: usize) -> Result<(), NoMemory>
 }
 
 /// Sets the number of a pair; without memory all numbers stay.
+#[inline(always)]
 pub(crate) fn put_number(rows: &mut Vec<Row>, pair: &Pair, number: usize) -> Result<(), NoMemory>
     requires { AreFormedRows rows.old.items }
     ensures formed { AreFormedRows rows.new.items }

@@ -104,11 +104,27 @@ pub(crate) fn spans_of(
     Ok(spans)
 }
 
-/// How many reasons the spans count, if a `usize` can tell.
+/// A copy of the spans. One alone, as mostly, has room without an allocation.
+#[inline(always)]
+pub(crate) fn copy_of(alloc: Global, spans: &[Span]) -> Result<SmallVec<Span, 2>, NoMemory>
+    ensures { IfOk result (λ copy. copy.items ≡ spans.now) }
+{
+    if spans.len() == 1 {
+        let mut copy = SmallVec::new(alloc);
+        copy.push_reserved(spans[0]);
+        return Ok(copy);
+    }
+    Ok(SmallVec::from_slice(alloc, spans)?)
+}
+
+/// How many reasons the spans count, if a `usize` can tell, as it can of one span.
 #[inline(always)]
 pub(crate) fn count_of(spans: &[Span]) -> Option<usize>
     ensures { SomeIff result (counted spans.now < 2 ^ 64) (counted spans.now) }
 {
+    if spans.len() == 1 {
+        return Some(span_of(spans, 0).count as usize);
+    }
     let mut count: usize = 0;
     for span in spans {
         let Some(more) = count.checked_add(span.count as usize) else {
@@ -147,28 +163,19 @@ pub(crate) fn has_all(rows: &[Row], span: &Span, number: usize) -> bool
     }
 }
 
-/// The value at an index among those of the span that were removed before the number.
+/// The value at an index among those of the span that were removed before the number. Where the row has no other values between the
+/// ends of the span, it stands so many places behind the first one.
 fn value_in(rows: &[Row], span: &Span, number: usize, index: usize) -> Value
     requires formed { AreFormedRows rows.now }
     requires counts { span.now.count ≡ length (span_values rows.now number span.now) }
-    requires within { index < span.now.count }
+    requires within { index < length (span_values rows.now number span.now) }
     ensures { slice_get (span_values rows.now number span.now) index ≡ Some result }
 {
     let row = row_of(rows, span.var);
-    let first = row.first_from(span.low);
-    if row.reaches(first, span.count as usize, span.high) {
-        return row.numbered(first + index).0;
+    let mut place = row.first_from(span.low);
+    if row.reaches(place, span.count as usize, span.high) {
+        return row.numbered(place + index).0;
     }
-    value_behind(row, span, number, first, index)
-}
-
-/// The value at an index among those of the span that were removed before the number, none of which stands before the place.
-fn value_behind(row: &Row, span: &Span, number: usize, first: usize, index: usize) -> Value
-    requires formed { IsFormedRow row.now }
-    requires within { index < length (rest_in row.now number span.now.high first) }
-    ensures { slice_get (rest_in row.now number span.now.high first) index ≡ Some result }
-{
-    let mut place = first;
     let mut left = index;
     while left > 0 {
         place = row.next_before(place, span.high, number).unwrap() + 1;
