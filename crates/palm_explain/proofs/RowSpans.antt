@@ -4,7 +4,7 @@ use Rattle.std.specs.List.{AllWithin}
 use Rattle.std.specs.List.Sorted.{IsPartitionedBy}
 use Rattle.std.proofs.lemmas.Bool.{cases_Bool, cases_lt, lt-ltb, le-ltb}
 use Rattle.std.proofs.lemmas.Int.{ints}
-use Rattle.std.proofs.lemmas.List.{append_assoc, drop_all, drop_more, length-append, length-drop, length-map, length-take, take-append-drop}
+use Rattle.std.proofs.lemmas.List.{append_assoc, drop_all, drop_more, get_or_default, length-append, length-drop, length-map, length-take, take-append-drop}
 use Rattle.std.proofs.lemmas.List.Elements.{filter-append, Contains-push_cases}
 use Rattle.std.proofs.Math.Seq.{take-add}
 use Rattle.std.proofs.lemmas.Option.{slice_get_within, get_or_from_slice_get}
@@ -16,7 +16,7 @@ use Rattle.palm_explain.specs.declared.rows.Row.{Row}
 use Rattle.palm_base.specs.declared.terms.Pair.{Pair}
 use Rattle.palm_explain.specs.Entries.{AreSpansOf, pairs_with, row_span, span_pairs, span_values, written}
 use Rattle.palm_explain.specs.declared.spans.Span.{Span}
-use Rattle.palm_explain.specs.Rows.{IsFormedRow, IsNext, is_less, number_in, rest_in, span_in}
+use Rattle.palm_explain.specs.Rows.{IsFormedRow, IsNext, StandsAt, is_less, number_in, rest_in, span_in}
 use Rattle.palm_explain.proofs.Reasons.{get_first, map_place, number_less, some_same}
 
 -- ---- tests of all
@@ -28,6 +28,34 @@ filter_none p (x ∷ xs) none = ap (λ b. cond b (x ∷ filter p xs) (filter p x
 pub filter_all : {X : Type 0} (p : X → Bool) (xs : List X) → ((x : X) → Contains xs x → p x ≡ true) → filter p xs ≡ xs
 filter_all p [] all = refl
 filter_all p (x ∷ xs) all = ap (λ b. cond b (x ∷ filter p xs) (filter p xs)) (all x (member_here x xs)) ∙ ap (λ l. x ∷ l) (filter_all p xs (λ y m. all y (member_there x xs y m)))
+
+filter_shorter : {X : Type 0} (p : X → Bool) (xs : List X) → length (filter p xs) ≤ length xs
+filter_shorter p [] = omega arith
+filter_shorter p (x ∷ xs) = let rest = filter_shorter p xs in elim (cases_Bool (p x)) [
+  | inl t ↦ let e = ap (λ b. length (cond b (x ∷ filter p xs) (filter p xs))) t in omega (arith, e, rest)
+  | inr f ↦ let e = ap (λ b. length (cond b (x ∷ filter p xs) (filter p xs))) f in omega (arith, e, rest)
+]
+
+-- where none is left out all pass
+filter_full : {X : Type 0} (p : X → Bool) (xs : List X) → length xs ≤ length (filter p xs) → filter p xs ≡ xs
+filter_full p [] le = refl
+filter_full p (x ∷ xs) le = let rest = filter_shorter p xs in elim (cases_Bool (p x)) [
+  | inl t ↦
+      let e = ap (λ b. length (cond b (x ∷ filter p xs) (filter p xs))) t in
+      ap (λ b. cond b (x ∷ filter p xs) (filter p xs)) t ∙ ap (λ l. x ∷ l) (filter_full p xs (omega (arith, e, le)))
+  | inr f ↦ let e = ap (λ b. length (cond b (x ∷ filter p xs) (filter p xs))) f in absurd (omega (arith, e, le, rest))
+]
+
+pub take_get : {X : Type 0} (n : ℕ) (xs : List X) (k : ℕ) → k < n → slice_get (take n xs) k ≡ slice_get xs k
+take_get zero xs k lt = absurd (omega (arith, lt))
+take_get (suc n) [] k lt = refl
+take_get (suc n) (x ∷ xs) zero lt = refl
+take_get (suc n) (x ∷ xs) (suc k) lt = take_get n xs k (omega (arith, lt))
+
+pub drop_get : {X : Type 0} (n : ℕ) (xs : List X) (k : ℕ) → slice_get (drop n xs) k ≡ slice_get xs (n + k)
+drop_get zero xs k = let e : k ≡ 0 + k = omega arith in ap (slice_get xs) e
+drop_get (suc n) [] k = refl
+drop_get (suc n) (x ∷ xs) k = let e : suc (n + k) ≡ suc n + k = omega arith in drop_get n xs k ∙ ap (slice_get (x ∷ xs)) e
 
 le_true : (a b : ℤ) → a ≤ℤ b → int_le a b ≡ true
 le_true a b le = elim (cases_Bool (int_le a b)) [ inl t ↦ t | inr f ↦ absurd (omega (arith, ints, le, f)) ]
@@ -129,12 +157,28 @@ module _ (r : Row) (n : ℕ) (high : ℤ) where
       let two = get_or_from_slice_get vs p.0 w w p.2 in
       ap (λ b. b && is_less (number_in r.values.items r.numbers.items w) n) (le_false w high (omega (arith, ints, rises, one, two, lt))))
 
--- ---- values that stand side by side
+  -- so many that end with the high value are all
+  pub rest_together : (i count index : ℕ) → IsFormedRow r → 0 < count → StandsAt r high (i + count - 1) → count ≡ length (rest_in r n high i) → index < count → slice_get (rest_in r n high i) index ≡ slice_get r.values.items (i + index)
+  rest_together i count index formed some ends counted lt =
+      let vs = r.values.items in
+      let rest = drop i vs in
+      let within = ends.0 in
+      let beyond : filter up_to (drop count rest) ≡ [] = filter_none up_to (drop count rest) (λ v m.
+      let k = drop_place count rest v m in
+      let at = sym (drop_get i vs k.0) ∙ k.2 in
+      let ge = k.1 in
+      let rises = get_or-ascends vs formed.ascends (i + count - 1) (i + k.0) v v (omega (arith, ge, some)) (slice_get_within vs (i + k.0) v at) in
+      let one = get_or_default vs (i + count - 1) v high within ∙ ends.1 in
+      let two = get_or_from_slice_get vs (i + k.0) v v at in
+      ap (λ b. b && is_less (number_in vs r.numbers.items v) n) (le_false v high (omega (arith, ints, rises, one, two)))) in
+      let split : filter up_to rest ≡ filter up_to (take count rest) =
+      ap (filter up_to) (sym (take-append-drop count rest)) ∙ filter-append up_to (take count rest) (drop count rest) ∙ ap (λ l. filter up_to (take count rest) ++ l) beyond ∙ append_nil (filter up_to (take count rest)) in
+      let long = ap length split in
+      let one = length-take count rest in
+      let whole = filter_full up_to (take count rest) (omega (arith, one, long, counted)) in
+      ap (λ l. slice_get l index) (split ∙ whole) ∙ take_get count rest index lt ∙ drop_get i vs index
 
-pub drop_get : {X : Type 0} (n : ℕ) (xs : List X) (k : ℕ) → slice_get (drop n xs) k ≡ slice_get xs (n + k)
-drop_get zero xs k = let e : k ≡ 0 + k = omega arith in ap (slice_get xs) e
-drop_get (suc n) [] k = refl
-drop_get (suc n) (x ∷ xs) k = let e : suc (n + k) ≡ suc n + k = omega arith in drop_get n xs k ∙ ap (slice_get (x ∷ xs)) e
+-- ---- values that stand side by side
 
 same_run : (c x : ℕ) (vs : List ℤ) (ps : List Pair) → ((k : ℕ) → k < c → (v : ℤ) × (slice_get ps k ≡ Some (record { var = x; value = v })) × (slice_get vs k ≡ Some v)) → pairs_with x (take c vs) ≡ take c ps
 same_run zero x vs ps run = refl

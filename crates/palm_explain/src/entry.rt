@@ -49,16 +49,8 @@ fn place_from_start(log: &[Entry], number: usize) -> usize {
     }
 }
 
-/// How many of the entries have less numbers, found by halves.
-#[inline(never)]
-fn place_by_halves(log: &[Entry], number: usize) -> usize
-    requires { AllPairs (λ a b. a.number < b.number) log.now }
-    ensures { IsPartedAt (λ e. nat_lt e.number number) log.now result }
-{
-    log.partition_point(|entry| entry.number < number)
-}
-
-/// How many of the entries have less numbers. Where nothing was withdrawn behind a number, or before it, the number itself tells.
+/// How many of the entries have less numbers. Where nothing was withdrawn behind a number, or before it, the number itself tells, and else
+/// they are found by halves.
 pub(crate) fn place_of(log: &[Entry], number: usize) -> usize
     requires { AllPairs (λ a b. a.number < b.number) log.now }
     ensures { IsPartedAt (λ e. nat_lt e.number number) log.now result }
@@ -71,7 +63,7 @@ pub(crate) fn place_of(log: &[Entry], number: usize) -> usize
     if has_number(log, place, number) {
         return place;
     }
-    place_by_halves(log, number)
+    log.partition_point(|entry| entry.number < number)
 }
 
 /// How many of the entries have less numbers. Mostly the number stands before that which was looked for last, at `near`.

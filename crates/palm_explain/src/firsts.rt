@@ -32,6 +32,7 @@ impl Firsts {
 
     /// Notes the number of a constraint's next removal, unless it has a less one, as where it made the last removal of the log too.
     /// Without memory nothing changes.
+    #[inline(always)]
     pub(crate) fn note(&mut self, log: &[Entry], cid: &Cid, number: usize) -> Result<(), NoMemory>
         requires formed { AreFormedFirsts self.old }
         requires begun { (e : EntryTerm) → Contains log.now e → HasFirst self.old e.by number }

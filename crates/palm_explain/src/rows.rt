@@ -1,5 +1,5 @@
 //! The numbers of removed pairs, in a row for each variable, so that none is looked up by hashing.
-ghost use Rattle.std.specs.Prelude.{◌≡◌, ◌≢◌, ◌⊎◌, ℕ, ℤ, ◌+◌, ◌<◌, ◌≤◌, true, None, Some, [], ◌∷◌, length, slice_get, slice_index_or, IfNone, IfSome, MatchOption, OnErr, OnOk};
+ghost use Rattle.std.specs.Prelude.{◌≡◌, ◌≢◌, ◌⊎◌, ℕ, ℤ, ◌+◌, ◌-◌, ◌<◌, ◌≤◌, true, None, Some, [], ◌∷◌, length, slice_get, slice_index_or, IfNone, IfSome, MatchOption, OnErr, OnOk};
 ghost use Rattle.palm_base.specs.Ascending.{Ascends};
 ghost use Rattle.palm_base.specs.declared.terms.Pair.{Pair as PairTerm};
 ghost use Rattle.palm_explain.specs.Restored.{KeepsNumbers, slot_at};
@@ -114,6 +114,17 @@ impl Row {
         self.values.partition_point(|value| *value < low)
     }
 
+    /// Whether so many values from a place on end with this one.
+    #[inline(always)]
+    pub(crate) fn reaches(&self, start: usize, count: usize, high: Value) -> bool
+        requires { 0 < count }
+        ensures { result ≡ true → StandsAt self.now high (start + count - 1) }
+    {
+        start < self.values.len()
+            && count <= self.values.len() - start
+            && self.has_at(start + (count - 1), high)
+    }
+
     /// The first place from this one on whose value is at most `high`, and was removed before the number.
     #[inline(always)]
     pub(crate) fn next_before(&self, place: usize, high: Value, number: usize) -> Option<usize>
@@ -157,6 +168,7 @@ impl Row {
     }
 
     /// Sets the number of a value; without memory nothing changes.
+    #[inline(always)]
     fn put(&mut self, value: Value, number: usize) -> Result<(), NoMemory>
         requires { IsFormedRow self.old }
         ensures formed { IsFormedRow self.new }
@@ -207,7 +219,7 @@ pub(crate) fn number_near(rows: &[Row], pair: &Pair, near: &mut usize) -> Option
     requires { AreFormedRows rows.now }
     ensures { result ≡ number_at rows.now pair.now }
 {
-    let row = rows.get(pair.var.0 as usize)?;
+    let row = row_at(rows, pair.var)?;
     row.number_near(pair.value, near)
 }
 
@@ -228,15 +240,6 @@ pub(crate) fn row_of(rows: &[Row], var: Var) -> &Row
     &rows[var.0 as usize]
 }
 
-/// The number under which the pair was entered last.
-pub(crate) fn number_of(rows: &[Row], pair: &Pair) -> Option<usize>
-    requires { AreFormedRows rows.now }
-    ensures { result ≡ number_at rows.now pair.now }
-{
-    let mut near = 0;
-    number_near(rows, pair, &mut near)
-}
-
 /// Makes a row for each of the first variables, so many of them; all numbers stay.
 #[inline(always)]
 fn reach(rows: &mut Vec<Row>, variables: usize) -> Result<(), NoMemory>
@@ -253,6 +256,7 @@ fn reach(rows: &mut Vec<Row>, variables: usize) -> Result<(), NoMemory>
 }
 
 /// Sets the number of a pair; without memory all numbers stay.
+#[inline(always)]
 pub(crate) fn put_number(rows: &mut Vec<Row>, pair: &Pair, number: usize) -> Result<(), NoMemory>
     requires { AreFormedRows rows.old.items }
     ensures formed { AreFormedRows rows.new.items }

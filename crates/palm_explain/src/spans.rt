@@ -1,12 +1,12 @@
 //! The reasons of a removal by spans of values, and how a list of reasons is put into spans.
-ghost use Rattle.std.specs.Prelude.{◌≡◌, ℕ, ◌+◌, ◌-◌, ◌^◌, ◌<◌, ◌≤◌, true, Some, length, drop, take, slice_get, Contains, IfOk, SomeIff};
+ghost use Rattle.std.specs.Prelude.{◌≡◌, ℕ, ◌+◌, ◌-◌, ◌^◌, ◌<◌, ◌≤◌, true, Some, length, drop, take, slice_get, ◌++◌, Contains, IfOk, OnOk, SomeIff};
 ghost use Rattle.palm_base.specs.Tells.{Tells};
 ghost use Rattle.palm_base.specs.declared.terms.Pair.{Pair as PairTerm};
 ghost use Rattle.palm_explain.specs.Entries.{AreSpansOf, counted, pairs_with, span_pairs, span_values, written};
-ghost use Rattle.palm_explain.specs.Rows.{AreFormedRows, IsFormedRow, IsNext, WereRemoved, number_at, number_in, span_in};
+ghost use Rattle.palm_explain.specs.Rows.{AreFormedRows, IsFormedRow, IsNext, WereRemoved, number_at, number_in, rest_in, span_in};
 ghost use Rattle.palm_explain.specs.declared.spans.Span.{Span as SpanTerm};
 
-use crate::rows::{Row, row_of};
+use crate::rows::{Row, row_at, row_of};
 use palm_base::{NoMemory, Pair, Value, Var};
 use smallvec::SmallVec;
 use std::alloc::{AllocError, Global};
@@ -104,11 +104,27 @@ pub(crate) fn spans_of(
     Ok(spans)
 }
 
-/// How many reasons the spans count, if a `usize` can tell.
+/// A copy of the spans. One alone, as mostly, has room without an allocation.
+#[inline(always)]
+pub(crate) fn copy_of(alloc: Global, spans: &[Span]) -> Result<SmallVec<Span, 2>, NoMemory>
+    ensures { IfOk result (λ copy. copy.items ≡ spans.now) }
+{
+    if spans.len() == 1 {
+        let mut copy = SmallVec::new(alloc);
+        copy.push_reserved(spans[0]);
+        return Ok(copy);
+    }
+    Ok(SmallVec::from_slice(alloc, spans)?)
+}
+
+/// How many reasons the spans count, if a `usize` can tell, as it can of one span.
 #[inline(always)]
 pub(crate) fn count_of(spans: &[Span]) -> Option<usize>
     ensures { SomeIff result (counted spans.now < 2 ^ 64) (counted spans.now) }
 {
+    if spans.len() == 1 {
+        return Some(span_of(spans, 0).count as usize);
+    }
     let mut count: usize = 0;
     for span in spans {
         let Some(more) = count.checked_add(span.count as usize) else {
@@ -147,14 +163,19 @@ pub(crate) fn has_all(rows: &[Row], span: &Span, number: usize) -> bool
     }
 }
 
-/// The value at an index among those of the span that were removed before the number.
+/// The value at an index among those of the span that were removed before the number. Where the row has no other values between the
+/// ends of the span, it stands so many places behind the first one.
 fn value_in(rows: &[Row], span: &Span, number: usize, index: usize) -> Value
     requires formed { AreFormedRows rows.now }
+    requires counts { span.now.count ≡ length (span_values rows.now number span.now) }
     requires within { index < length (span_values rows.now number span.now) }
     ensures { slice_get (span_values rows.now number span.now) index ≡ Some result }
 {
     let row = row_of(rows, span.var);
     let mut place = row.first_from(span.low);
+    if row.reaches(place, span.count as usize, span.high) {
+        return row.numbered(place + index).0;
+    }
     let mut left = index;
     while left > 0 {
         place = row.next_before(place, span.high, number).unwrap() + 1;
@@ -192,4 +213,39 @@ pub(crate) fn reason_in(rows: &[Row], spans: &[Span], number: usize, index: usiz
         var: span.var,
         value,
     }
+}
+
+/// Appends the reasons of a span.
+fn push_span(rows: &[Row], span: &Span, number: usize, out: &mut Vec<Pair>) -> Result<(), NoMemory>
+    requires { AreFormedRows rows.now }
+    ensures { OnOk result (out.new.items ≡ out.old.items ++ span_pairs rows.now number span.now) }
+{
+    let Some(row) = row_at(rows, span.var) else {
+        return Ok(());
+    };
+    let mut place = row.first_from(span.low);
+    while let Some(next) = row.next_before(place, span.high, number) {
+        out.push(Pair {
+            var: span.var,
+            value: row.numbered(next).0,
+        })?;
+        place = next + 1;
+    }
+    Ok(())
+}
+
+/// Appends the reasons of the spans, one span after another.
+pub(crate) fn push_spans(
+    rows: &[Row],
+    spans: &[Span],
+    number: usize,
+    out: &mut Vec<Pair>,
+) -> Result<(), NoMemory>
+    requires { AreFormedRows rows.now }
+    ensures { OnOk result (out.new.items ≡ out.old.items ++ written rows.now number spans.now) }
+{
+    for span in spans {
+        push_span(rows, span, number, out)?;
+    }
+    Ok(())
 }

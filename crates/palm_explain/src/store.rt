@@ -16,12 +16,11 @@ use crate::losing::lose_each;
 use crate::naming::names_at;
 use crate::needing::{add_needed, cids_of};
 use crate::restored::Restored;
-use crate::rows::{NO_NUMBER, Row, declare_values, number_of, put_number};
-use crate::spans::{Span, count_of, reason_in, spans_of};
+use crate::rows::{NO_NUMBER, Row, declare_values, number_near, put_number};
+use crate::spans::{Span, copy_of, count_of, push_spans, reason_in, spans_of};
 use crate::withdrawing::close_up;
 use palm_base::{Cid, CidList, NoMemory, Pair, Value, Var};
 use palm_domain::DomainStore;
-use smallvec::SmallVec;
 use std::alloc::{AllocError, Global};
 use std::marker::Model;
 
@@ -97,7 +96,7 @@ impl ExplainStore {
         if number == NO_NUMBER || count_of(spans).is_none() {
             return Err(NoMemory);
         }
-        let own = SmallVec::from_slice(*self.log.allocator(), spans)?;
+        let own = copy_of(*self.log.allocator(), spans)?;
         self.restored.reserve(self.log.len() + 1)?;
         self.log.reserve(1)?;
         self.firsts.note(&self.log, &by, number)?;
@@ -155,13 +154,29 @@ impl ExplainStore {
         reason_in(&self.rows, entry.spans.as_slice(), entry.number, index)
     }
 
+    /// Makes `out` the reasons of the removal at a place; without memory `out` is empty.
+    pub fn reasons(&self, place: usize, out: &mut Vec<Pair>) -> Result<(), NoMemory>
+        requires { place < length self.now.log }
+        ensures ok { OnOk result (out.new.items ≡ reasons_of self.now.log place) }
+        ensures err { OnErr result (out.new.items ≡ []) }
+    {
+        out.clear();
+        let entry = &self.log[place];
+        let pushed = push_spans(&self.rows, entry.spans.as_slice(), entry.number, out);
+        if pushed.is_err() {
+            out.clear();
+        }
+        pushed
+    }
+
     /// The place of a pair's removal.
     pub fn place_of(&self, pair: Pair) -> Option<usize>
         ensures { MatchOption result
             (Contains (log_pairs self.now.log) pair → ⊥)
             (λ place. slice_get (log_pairs self.now.log) place ≡ Some pair) }
     {
-        match number_of(&self.rows, &pair) {
+        let mut near = 0;
+        match number_near(&self.rows, &pair, &mut near) {
             Some(number) if number < NO_NUMBER => Some(place_of(&self.log, number)),
             _ => None,
         }
@@ -173,7 +188,8 @@ impl ExplainStore {
         ensures same { self.new ≡ self.old }
         ensures tells { Tells result (NamesOfPair self.old.log pair cid) }
     {
-        let number = number_of(&self.rows, &pair).unwrap();
+        let mut near = 0;
+        let number = number_near(&self.rows, &pair, &mut near).unwrap();
         let place = place_of(&self.log, number);
         names_at(&mut self.log, &self.rows, place, &cid)
     }

@@ -110,6 +110,17 @@ fn assert_spans_entered(rt: &impl Abort, alloc: Global) -> Result<(), NoMemory> 
         assert_eq!(rt; log.place_of(removal.pair), Some(place));
     }
     assert_eq!(rt; log.place_of(pair(0, 4)), None);
+    assert_last_reasons(rt, alloc, &log)
+}
+
+/// Asserts that the reasons of the last removal are told at once, in place of what was in the list.
+fn assert_last_reasons(rt: &impl Abort, alloc: Global, log: &ExplainStore) -> Result<(), NoMemory> {
+    let mut reasons = Vec::from_slice(alloc, &[pair(1, 1)])?;
+    if let Some(last) = log.removals().checked_sub(1) {
+        log.reasons(last, &mut reasons)?;
+    }
+    let expected = [pair(0, 2), pair(0, 3), pair(0, 5)];
+    assert_eq!(rt; reasons.as_slice(), expected.as_slice());
     Ok(())
 }
 

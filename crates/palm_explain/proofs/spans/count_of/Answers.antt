@@ -1,8 +1,19 @@
-use Rattle.std.proofs.Common.{◌≡◌, ◌∙◌, ap, take, take_all, arith}
+use Rattle.std.proofs.Common.{◌≡◌, ◌∙◌, List, [], ◌∷◌, Some, length, slice_get, sym, ap, take, take_all, arith}
 use Rattle.std.proofs.lemmas.List.Sums.{sum_by_more_le}
 use Rattle.palm_explain.specs.Entries.{counted}
 use Rattle.palm_explain.specs.declared.spans.Span.{Span}
+use Rattle.palm_explain.proofs.Reasons.{some_same}
 use Rattle.palm_explain.proofs.spans.count_of.Goals as goal
+
+only_one : (spans : List Span) (s : Span) → length spans ≡ 1 → slice_get spans 0 ≡ Some s → s.count ≡ counted spans
+only_one [] s one at = absurd (omega (arith, one))
+only_one (t ∷ []) s one at = let e : s.count ≡ t.count = ap (λ (z : Span). z.count) (some_same s t (sym at)) in omega (arith, e)
+only_one (t ∷ u ∷ spans) s one at = absurd (omega (arith, one))
+
+pub returns-then-spans-eq1 : goal.returns-then-spans-eq1
+returns-then-spans-eq1 c =
+    let all = only_one c.args.spans.now c.span_of.result c.if-spans-eq1.true c.span_of.ensures in
+    let fits = c.span_of.type_inv in (omega (arith, all, fits), all)
 
 pub returns-in_default : goal.returns-in_default
 returns-in_default c =

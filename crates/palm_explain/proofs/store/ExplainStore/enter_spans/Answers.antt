@@ -53,7 +53,7 @@ invariant_of-self-2 c =
     let reasons = c.requires.spanned.0 in
     let e : Entry = record { number = next; pair = c.args.pair; by = c.args.by; mark = false; spans = c.in_ok-own.own } in
     let fresh : (f : Entry) → Contains entries f → f.pair ≡ e.pair → ⊥ = λ f m same. (rw (← c.self.view_is) at c.requires.fresh) (member_same (log_pairs (log_of rows entries)) f.pair e.pair same (entry_pair rows entries f m)) in
-    let same = c.in_ok-own.ensures.ok in
+    let same = c.in_ok-own.ensures in
     let spans = subst (λ ss. AreSpansOf rows next ss reasons) (sym same) (spanned_spans entries rows next c.self.invariant.entered c.args.spans.now reasons (rw (← c.self.view_is) at c.requires.spanned.1)) in
     let fits = subst (λ ss. counted ss < 2 ^ 64) (sym same) (counted_fits c.count_of.result (counted c.args.spans.now) c.count_of.ensures (c.is_none.ensures ∙ ap not c.if-is_none.false)) in
     let pushed = c.push_reserved.ensures.items ∙ ap (λ es. es ++ e ∷ []) c.reserve-2.ensures.items in
@@ -69,7 +69,7 @@ returns-clause-ok c reasons spanned =
     let next = c.self.inside.next in
     let e : Entry = record { number = next; pair = c.args.pair; by = c.args.by; mark = false; spans = c.in_ok-own.own } in
     let fresh : (f : Entry) → Contains entries f → f.pair ≡ e.pair → ⊥ = λ f m same. (rw (← c.self.view_is) at c.requires.fresh) (member_same (log_pairs (log_of rows entries)) f.pair e.pair same (entry_pair rows entries f m)) in
-    let spans = subst (λ ss. AreSpansOf rows next ss reasons) (sym c.in_ok-own.ensures.ok) (spanned_spans entries rows next c.self.invariant.entered c.args.spans.now reasons (rw (← c.self.view_is) at spanned)) in
+    let spans = subst (λ ss. AreSpansOf rows next ss reasons) (sym c.in_ok-own.ensures) (spanned_spans entries rows next c.self.invariant.entered c.args.spans.now reasons (rw (← c.self.view_is) at spanned)) in
     let pushed = c.push_reserved.ensures.items ∙ ap (λ es. es ++ e ∷ []) c.reserve-2.ensures.items in
     let log = ap (log_of c.put_number.new.rows.items) pushed
     ∙ log_pushed entries rows c.put_number.new.rows.items next e c.self.invariant.entered c.put_number.ensures.formed c.if-number.false refl fresh c.in_ok-put_number.ensures.there c.put_number.ensures.others reasons spans in

@@ -15,7 +15,7 @@ use Rattle.palm_explain.proofs.store.ExplainStore.names.Goals as goal
 pub unwrap-number-requires : goal.unwrap-number-requires
 unwrap-number-requires c =
     let e = pair_entry c.self.inside.rows.items c.self.inside.log.items c.args.pair (rw (← c.self.view_is) at c.requires) in
-    subst IsSome (sym (c.number_of.ensures ∙ ap (λ rs. number_at rs c.args.pair) c.deref.ensures.value ∙ ap (number_at c.self.inside.rows.items) (sym e.2) ∙ c.self.invariant.entered.found e.0 e.1)) refl
+    subst IsSome (sym (c.number_near.ensures ∙ ap (λ rs. number_at rs c.args.pair) c.deref.ensures.value ∙ ap (number_at c.self.inside.rows.items) (sym e.2) ∙ c.self.invariant.entered.found e.0 e.1)) refl
 
 pub names_at-requires-clause-within : goal.names_at-requires-clause-within
 names_at-requires-clause-within c =
@@ -23,7 +23,7 @@ names_at-requires-clause-within c =
     let entries = c.self.inside.log.items in
     let e = pair_entry rows entries c.args.pair (rw (← c.self.view_is) at c.requires) in
     let is = ap (number_at rows) (sym e.2) ∙ c.self.invariant.entered.found e.0 e.1 in
-    let same = some_same e.0.number c.unwrap-number.result (sym (c.number_of.ensures ∙ ap (λ rs. number_at rs c.args.pair) c.deref.ensures.value ∙ is) ∙ c.unwrap-number.ensures) in
+    let same = some_same e.0.number c.unwrap-number.result (sym (c.number_near.ensures ∙ ap (λ rs. number_at rs c.args.pair) c.deref.ensures.value ∙ is) ∙ c.unwrap-number.ensures) in
     let parted : IsPartedAt (λ f. nat_lt f.number c.unwrap-number.result) entries c.place_of-place.result = rw c.deref-2.ensures.value at c.place_of-place.ensures in
     slice_get_within entries c.place_of-place.result e.0 (parted_entry entries c.self.invariant.entered.rises c.place_of-place.result e.0 e.1 (subst (λ n. IsPartedAt (λ f. nat_lt f.number n) entries c.place_of-place.result) (sym same) parted))
 
@@ -33,7 +33,7 @@ returns-clause-tells c =
     let entries = c.self.inside.log.items in
     let e = pair_entry rows entries c.args.pair (rw (← c.self.view_is) at c.requires) in
     let is = ap (number_at rows) (sym e.2) ∙ c.self.invariant.entered.found e.0 e.1 in
-    let same = some_same e.0.number c.unwrap-number.result (sym (c.number_of.ensures ∙ ap (λ rs. number_at rs c.args.pair) c.deref.ensures.value ∙ is) ∙ c.unwrap-number.ensures) in
+    let same = some_same e.0.number c.unwrap-number.result (sym (c.number_near.ensures ∙ ap (λ rs. number_at rs c.args.pair) c.deref.ensures.value ∙ is) ∙ c.unwrap-number.ensures) in
     let parted : IsPartedAt (λ f. nat_lt f.number c.unwrap-number.result) entries c.place_of-place.result = rw c.deref-2.ensures.value at c.place_of-place.ensures in
     let at = parted_entry entries c.self.invariant.entered.rises c.place_of-place.result e.0 e.1 (subst (λ n. IsPartedAt (λ f. nat_lt f.number n) entries c.place_of-place.result) (sym same) parted) in
     let told : Tells c.names_at.result (Names (log_of rows entries) c.args.cid (removal_of rows e.0)) =
