@@ -77,8 +77,8 @@ impl Places {
         ensures only { (p : ℕ) → HasPlace self.new p → HasPlace self.old p ⊎ IsIn word.now p }
     {
         let at = index_near(&self.words, self.near, word.start);
-        self.near = at;
         if starts_at(&self.words, at, word.start) {
+            self.near = at;
             join_bits(&mut self.words, at, word.bits);
             return Ok(());
         }
