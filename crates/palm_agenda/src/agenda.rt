@@ -14,7 +14,7 @@ ghost use Rattle.palm_agenda.specs.Open.{Covers, is_open};
 ghost use Rattle.palm_agenda.specs.declared.agenda.Woken.{Woken as WokenTerm};
 ghost use Rattle.palm_agenda.specs.Flags.{count_raised, flagged};
 ghost use Rattle.palm_agenda.specs.Cids.{HasSpace, cids_at};
-ghost use Rattle.palm_agenda.specs.Kept.{IsShown};
+ghost use Rattle.palm_agenda.specs.Kept.{IsShown, WakesOthers};
 ghost use Rattle.palm_agenda.specs.Places.{mark_places};
 
 use crate::cids::Cids;
@@ -110,8 +110,10 @@ fn wake_named(
         ↔ (Contains (flagged (connected_cids connections.old.items) pending.old.flags) c ⊎ (c ≡ cid.now)) }
     ensures flags { length pending.new.flags ≡ length pending.old.flags }
     ensures hearing { IsHearing heard.new places.now }
-    ensures covers { (d : Connected) → Contains connections.old.items d → d.cid ≡ cid.now → Covers heard.new.still places.now (heed_of var.now d.scope d.heeds) }
-    ensures more { (l : LossTerm) → is_open heard.new.still l ≡ false → is_open heard.old.still l ≡ false }
+    ensures covers { (d : Connected) → Contains connections.old.items d → d.cid ≡ cid.now
+        → Covers heard.new.still places.now (heed_of var.now d.scope d.heeds) }
+    ensures more { (l : LossTerm) → is_open heard.new.still l ≡ false
+        → is_open heard.old.still l ≡ false }
 {
     let place = place_near(connections, lag, cid);
     let connection = &mut connections[place];
@@ -349,9 +351,7 @@ impl Agenda {
     /// The same, whether it is noted that this changes nothing or not.
     #[inline(never)]
     fn wake_others(&mut self, var: Var, loss: Loss)
-        ensures connected { self.new.connected ≡ map (mark_others var loss) self.old.connected }
-        ensures pending { (c : CidTerm) → Contains self.new.pending c ↔ (Contains self.old.pending c ⊎ IsOver self.old.connected var c) }
-        ensures formed { IsFormed self.new }
+        ensures { WakesOthers var loss self.old self.new }
     {
         self.is_shown = false;
         self.woken = None;

@@ -38,7 +38,8 @@ impl Heard {
         requires { IsHearing self.old places.now }
         ensures hearing { IsHearing self.new places.now }
         ensures heard { HasHeard self.new places.now heed }
-        ensures more { (l : LossTerm) → is_open self.new.still l ≡ false → is_open self.old.still l ≡ false }
+        ensures more { (l : LossTerm) → is_open self.new.still l ≡ false
+            → is_open self.old.still l ≡ false }
     {
         if let Places::Others(loss) = places {
             if heed != self.heed {

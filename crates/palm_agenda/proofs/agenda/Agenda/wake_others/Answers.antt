@@ -28,18 +28,16 @@ invariant_of-self c = (
       (c.cids_over-cids.ensures ∙ ap (λ rows. reverse (cids_at rows c.args.var)) c.deref.ensures.value)) c.wake_each-still.ensures.covers,
 )
 
-pub returns-clause-connected : goal.returns-clause-connected
-returns-clause-connected c =
-    rw (← c.self.view_is)
-    (woken_connected (Others c.args.loss) c.args.var c.cids_over-cids.result.now c.self.inside.connections.items c.self.inside.over.items c.self.inside.pending.flags _ c.self.invariant.0
-    (c.cids_over-cids.ensures ∙ ap (λ rows. reverse (cids_at rows c.args.var)) c.deref.ensures.value) c.wake_each-still.new.connections.items c.wake_each-still.ensures.marks)
-
-pub returns-clause-pending : goal.returns-clause-pending
-returns-clause-pending c =
-    rw (← c.self.view_is)
-    (woken_pending c.args.var c.cids_over-cids.result.now c.self.inside.connections.items c.self.inside.over.items c.self.inside.pending.flags _ c.self.invariant.0
-    (c.cids_over-cids.ensures ∙ ap (λ rows. reverse (cids_at rows c.args.var)) c.deref.ensures.value)
-    (flagged (connected_cids c.self.inside.connections.items) c.self.inside.pending.flags) (flagged (connected_cids c.wake_each-still.new.connections.items) c.wake_each-still.new.pending.flags) c.wake_each-still.ensures.pending)
-
-pub returns-clause-formed : goal.returns-clause-formed
-returns-clause-formed c = (invariant_of-self c).0.formed
+pub returns : goal.returns
+returns c = record {
+  connected =
+      rw (← c.self.view_is)
+      (woken_connected (Others c.args.loss) c.args.var c.cids_over-cids.result.now c.self.inside.connections.items c.self.inside.over.items c.self.inside.pending.flags _ c.self.invariant.0
+      (c.cids_over-cids.ensures ∙ ap (λ rows. reverse (cids_at rows c.args.var)) c.deref.ensures.value) c.wake_each-still.new.connections.items c.wake_each-still.ensures.marks);
+  pending =
+      rw (← c.self.view_is)
+      (woken_pending c.args.var c.cids_over-cids.result.now c.self.inside.connections.items c.self.inside.over.items c.self.inside.pending.flags _ c.self.invariant.0
+      (c.cids_over-cids.ensures ∙ ap (λ rows. reverse (cids_at rows c.args.var)) c.deref.ensures.value)
+      (flagged (connected_cids c.self.inside.connections.items) c.self.inside.pending.flags) (flagged (connected_cids c.wake_each-still.new.connections.items) c.wake_each-still.new.pending.flags) c.wake_each-still.ensures.pending);
+  formed = (invariant_of-self c).0.formed;
+}
