@@ -4,7 +4,6 @@ ghost use Rattle.palm_book.specs.Book.{IsUser, name_of};
 ghost use Rattle.palm_cert.specs.Certificate.{certificate_text};
 ghost use Rattle.palm_cert.specs.Needs.{CanClaim};
 ghost use Rattle.palm_domain.specs.Rows.{present_of, present_values};
-ghost use Rattle.palm_explain.specs.Explanations.{reasons_of};
 ghost use Rattle.palm_lang.specs.Reply.{domain_line, entry_line};
 ghost use Rattle.palm_lang.specs.Writer.{Wrote};
 ghost use Rattle.palm_lang.specs.Writing.{Writes};
@@ -273,23 +272,7 @@ fn write_removal<K: Sink>(
     requires place { place < length log.now.log }
     ensures { Wrote K.state writer.old writer.new (log_line_at book.now log.now.log place) result }
 {
-    collect_reasons(log, place, reasons)?;
+    log.reasons(place, reasons)?;
     let by = number_of(log.by_at(place));
     writer.removal(book, log.pair_at(place), by, reasons)
-}
-
-/// Makes the list the reasons of the removal at a place.
-fn collect_reasons(
-    log: &ExplainStore,
-    place: usize,
-    reasons: &mut Vec<Pair>,
-) -> Result<(), NoMemory>
-    requires { place < length log.now.log }
-    ensures { OnOk result (reasons.new.items ≡ reasons_of log.now.log place) }
-{
-    reasons.clear();
-    for index in 0..log.reasons_at(place) {
-        reasons.push(log.reason_at(place, index))?;
-    }
-    Ok(())
 }

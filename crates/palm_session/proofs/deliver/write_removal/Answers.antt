@@ -19,11 +19,11 @@ removal-requires-clause-constraint g c =
 
 pub removal-requires-clause-reasons : goal.removal-requires-clause-reasons
 removal-requires-clause-reasons g c =
-    subst (λ (ps : List Pair). All (λ (p : Pair). p.var < length c.args.book.now.variables) ps) (sym (c.deref.ensures.value ∙ c.in_ok-collect_reasons.ensures))
+    subst (λ (ps : List Pair). All (λ (p : Pair). p.var < length c.args.book.now.variables) ps) (sym (c.deref.ensures.value ∙ c.in_ok-reasons.ensures.ok))
     (reasons_at_place c.args.book.now c.args.log.now.log c.requires.logged c.args.place c.requires.place)
 
 pub returns : goal.returns
 returns g c =
     wrote_text
     (line_at c.args.book.now c.args.log.now.log c.args.place c.pair_at.result c.by_at.result c.number_of-by.result c.deref.result.now c.pair_at.ensures c.by_at.ensures c.number_of-by.ensures
-    (c.deref.ensures.value ∙ c.in_ok-collect_reasons.ensures)) c.removal.ensures
+    (c.deref.ensures.value ∙ c.in_ok-reasons.ensures.ok)) c.removal.ensures
