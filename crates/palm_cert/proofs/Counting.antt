@@ -1,5 +1,5 @@
 -- Variables one by one.
-use Rattle.std.proofs.Common.{◌≡◌, ℕ, ◌+◌, ◌<◌, ◌≤◌, Bool, List, [], ◌∷◌, ◌++◌, length, take, drop, get_or, filter, flat_map, sym, ap, ◌∙◌, arith, zero-add}
+use Rattle.std.proofs.Common.{◌≡◌, ℕ, ◌+◌, ◌<◌, ◌≤◌, Bool, true, false, cond, List, [], ◌∷◌, ◌++◌, length, take, drop, get_or, filter, flat_map, sym, ap, ◌∙◌, append-nil, arith, zero-add}
 use Rattle.std.specs.List.{range_with_len}
 use Rattle.std.proofs.lemmas.Grind.{flat_map-append}
 use Rattle.std.proofs.lemmas.List.{take-append-drop, take_all, take_more}
@@ -31,3 +31,10 @@ module _ (f : ℕ → List ℕ) (p : ℕ → Bool) (n : ℕ) where
 
   pub below_all : (i : ℕ) → n ≤ i → below i ≡ flat_map f (filter p (range_with_len 0 n))
   below_all i le = ap (λ (xs : List ℕ). flat_map f (filter p xs)) (take_all i (range_with_len 0 n) (omega (arith, le, length-range_with_len 0 n)))
+
+  -- one of them, where it passes and where it does not
+  pub one_below : (i : ℕ) → p i ≡ true → f i ≡ flat_map f (filter p (i ∷ []))
+  one_below i e = sym (ap (λ (b : Bool). flat_map f (cond b (i ∷ []) [])) e ∙ append-nil (f i))
+
+  pub none_below : (i : ℕ) → p i ≡ false → [] ≡ flat_map f (filter p (i ∷ []))
+  none_below i e = sym (ap (λ (b : Bool). flat_map f (cond b (i ∷ []) [])) e)

@@ -1,5 +1,5 @@
 -- What is known of a log before its certificate is written, and what may be asked of it.
-use Rattle.std.specs.Prelude.{◌≡◌, ℕ, ◌-◌, ◌<◌, ◌≤◌, Bool, true, false, List, [], ◌∷◌, length, map, filter, flat_map, take, drop, Contains, Some, slice_get, nat_eq}
+use Rattle.std.specs.Prelude.{◌≡◌, ℕ, ◌-◌, ◌<◌, ◌≤◌, Bool, true, false, List, [], ◌∷◌, length, map, flat_map, take, drop, Contains, Some, slice_get, nat_eq}
 use Rattle.std.specs.List.{list_any}
 use Rattle.palm_base.specs.declared.terms.Pair.{Pair}
 use Rattle.palm_base.specs.declared.terms.Cid.{Cid}
@@ -7,8 +7,7 @@ use Rattle.palm_base.specs.declared.terms.Cid.TheVariants.{Decide, Not, User}
 use Rattle.palm_book.specs.Book.{Contents, IsUser}
 use Rattle.palm_claim.specs.declared.verdict.Claim.{Claim}
 use Rattle.palm_claim.specs.declared.verdict.Claim.TheVariants.{Gone, Conflict}
-use Rattle.palm_book.specs.declared.book.BookCon.{BookCon}
-use Rattle.palm_cert.specs.Certificate.{claimed, declared_line, is_cited, is_used, numbers_of}
+use Rattle.palm_cert.specs.Certificate.{claimed, is_cited, numbers_of}
 use Rattle.palm_cert.specs.declared.needs.Needs.{Needs}
 use Rattle.palm_explain.specs.Explanations.{IsLinked, reasons_of}
 use Rattle.palm_explain.specs.Needed.{AreNeeded}
@@ -78,8 +77,3 @@ has_var vars x = list_any (λ y. nat_eq y x) vars
 -- whether it is the variable of one of the terms
 abbrev pub has_term : List Term → ℕ → Bool
 has_term terms x = list_any (λ t. nat_eq t.var x) terms
-
--- the line of the variable, where it is used
-abbrev pub declared_at : Contents → List BookCon → ℕ → ℕ → List ℕ
-declared_at book constraints claimed x =
-    flat_map (declared_line book.variables) (filter (is_used constraints claimed) (x ∷ []))

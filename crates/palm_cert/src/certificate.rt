@@ -3,7 +3,7 @@ ghost use Rattle.std.specs.Prelude.{◌≡◌, ◌<◌, [], ◌∷◌, length, f
 ghost use Rattle.palm_book.specs.Book.{HasNumber, active_of, initial_of, number_name};
 ghost use Rattle.palm_cert.specs.Accepted.{IsAccepted};
 ghost use Rattle.palm_cert.specs.Certificate.{added_line, certificate_text, claim_line, claim_var, declarations, declared_line, step_line, step_words, used};
-ghost use Rattle.palm_cert.specs.Needs.{AreNeeds, AreSteps, CanClaim, IsOfBook, declared_at, marked, marked_at, removals_at};
+ghost use Rattle.palm_cert.specs.Needs.{AreNeeds, AreSteps, CanClaim, IsOfBook, marked, removals_at};
 ghost use Rattle.palm_explain.specs.Explanations.{IsLinked};
 ghost use Rattle.palm_lang.specs.Reply.{ended};
 ghost use Rattle.palm_lang.specs.Writer.{Wrote};
@@ -96,27 +96,11 @@ fn write_variables<K: Sink>(
     ensures { Wrote K.state writer.old writer.new (flat_map (declared_line book.now.variables) (used (marked cited.now book.now.constraints) claimed book.now)) result }
 {
     for index in 0..book.variables() {
-        write_variable(book, cited, claimed, Var(index), writer)?;
+        if is_used(book, cited, claimed, Var(index)) {
+            writer.variable(book, Var(index))?;
+        }
     }
     Ok(())
-}
-
-/// Writes a variable, where it is used.
-fn write_variable<K: Sink>(
-    book: &Book,
-    cited: &[bool],
-    claimed: Var,
-    var: Var,
-    writer: &mut Writer<'_, K>,
-) -> Result<(), CertStop>
-    requires marks { length cited.now ≡ length book.now.constraints }
-    requires variable { var < length book.now.variables }
-    ensures { Wrote K.state writer.old writer.new (declared_at book.now (marked cited.now book.now.constraints) claimed var) result }
-{
-    if !is_used(book, cited, claimed, var) {
-        return Ok(());
-    }
-    writer.variable(book, var)
 }
 
 /// Writes the constraints that are marked.
@@ -129,27 +113,12 @@ fn write_constraints<K: Sink>(
     ensures { Wrote K.state writer.old writer.new (flat_map (added_line book.now.variables) (marked cited.now book.now.constraints)) result }
 {
     for place in 0..book.constraints() {
-        write_constraint(book, cited, place, writer)?;
+        let is_cited = cited[place];
+        if is_cited {
+            write_added(book, book.constraint(place), writer)?;
+        }
     }
     Ok(())
-}
-
-/// Writes the constraint at a place, where it is marked.
-fn write_constraint<K: Sink>(
-    book: &Book,
-    cited: &[bool],
-    place: usize,
-    writer: &mut Writer<'_, K>,
-) -> Result<(), CertStop>
-    requires marks { length cited.now ≡ length book.now.constraints }
-    requires place { place < length book.now.constraints }
-    ensures { Wrote K.state writer.old writer.new (flat_map (added_line book.now.variables) (marked_at cited.now book.now.constraints place)) result }
-{
-    let is_cited = cited[place];
-    if !is_cited {
-        return Ok(());
-    }
-    write_added(book, book.constraint(place), writer)
 }
 
 /// Writes the `add` line of a constraint.

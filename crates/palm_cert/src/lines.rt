@@ -1,23 +1,15 @@
 //! The lines of a certificate at the end of what was written. Want of memory may leave a part of one there.
-ghost use Rattle.std.specs.Prelude.{◌≡◌, ◌<◌, ◌++◌, All, codes, decimal, length, map, OnOk};
+ghost use Rattle.std.specs.Prelude.{◌≡◌, ◌<◌, ◌++◌, All, decimal, length, map, OnOk};
 ghost use Rattle.palm_book.specs.Book.{HasNumber, number_name};
 ghost use Rattle.palm_cert.specs.Certificate.{added_line, claim_line, claim_var, from_words, step_words};
 ghost use Rattle.palm_lang.specs.Reply.{ended};
 ghost use Rattle.palm_model.specs.Constraint.{scope};
 ghost use Rattle.palm_read.specs.Words.{after_spaces, spaced};
 
-use palm_base::{NoMemory, Pair, Var};
+use palm_base::{NoMemory, Pair};
 use palm_lang::{
     Book, BookCon, Claim, print_con, put_spaced_int, put_spaced_name, put_spaced_value, put_text,
 };
-
-/// A space and a number.
-fn put_number(number: usize, out: &mut Vec<u8>) -> Result<(), NoMemory>
-    ensures { OnOk result (out.new.items ≡ out.old.items ++ (codes " " ++ decimal number)) }
-{
-    put_spaced_int(number as i128, out)?;
-    Ok(())
-}
 
 /// `add NAME : CONSTRAINT`
 pub fn put_added(book: &Book, entry: &BookCon, out: &mut Vec<u8>) -> Result<(), NoMemory>
@@ -48,7 +40,7 @@ fn put_numbers(numbers: &[usize], out: &mut Vec<u8>) -> Result<(), NoMemory>
     ensures { OnOk result (out.new.items ≡ out.old.items ++ after_spaces (map decimal numbers.now)) }
 {
     for number in numbers {
-        put_number(*number, out)?;
+        put_spaced_int(*number as i128, out)?;
     }
     Ok(())
 }
@@ -81,30 +73,18 @@ pub fn put_claim(book: &Book, claim: &Claim, out: &mut Vec<u8>) -> Result<(), No
     ensures { OnOk result (out.new.items ≡ out.old.items ++ claim_line book.now.variables claim.now) }
 {
     match claim {
-        Claim::Gone(pair) => put_gone(book, pair, out),
-        Claim::Conflict(var) => put_conflict(book, *var, out),
+        Claim::Gone(pair) => {
+            put_text("claim", out)?;
+            put_spaced_name(book.variable_name(pair.var), out)?;
+            put_spaced_value(&pair.value, out)?;
+            put_text("\n", out)?;
+            Ok(())
+        }
+        Claim::Conflict(var) => {
+            put_text("claim conflict", out)?;
+            put_spaced_name(book.variable_name(*var), out)?;
+            put_text("\n", out)?;
+            Ok(())
+        }
     }
-}
-
-/// `claim NAME VALUE`
-fn put_gone(book: &Book, pair: &Pair, out: &mut Vec<u8>) -> Result<(), NoMemory>
-    requires { pair.now.var < length book.now.variables }
-    ensures { OnOk result (out.new.items ≡ out.old.items ++ claim_line book.now.variables (Claim.Gone pair.now)) }
-{
-    put_text("claim", out)?;
-    put_spaced_name(book.variable_name(pair.var), out)?;
-    put_spaced_value(&pair.value, out)?;
-    put_text("\n", out)?;
-    Ok(())
-}
-
-/// `claim conflict NAME`
-fn put_conflict(book: &Book, var: Var, out: &mut Vec<u8>) -> Result<(), NoMemory>
-    requires { var < length book.now.variables }
-    ensures { OnOk result (out.new.items ≡ out.old.items ++ claim_line book.now.variables (Claim.Conflict var)) }
-{
-    put_text("claim conflict", out)?;
-    put_spaced_name(book.variable_name(var), out)?;
-    put_text("\n", out)?;
-    Ok(())
 }

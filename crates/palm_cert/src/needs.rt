@@ -1,5 +1,5 @@
 //! Which removals of a log a claim needs, which numbers they have as steps, and which constraints made them.
-ghost use Rattle.std.specs.Prelude.{◌≡◌, ◌-◌, ◌<◌, ◌≤◌, ◌++◌, List, [], ◌∷◌, length, replicate, true, false, All, Contains, IfOk, OnOk, Some, slice_get, slice_set};
+ghost use Rattle.std.specs.Prelude.{◌≡◌, ◌-◌, ◌<◌, ◌≤◌, ◌++◌, List, [], ◌∷◌, length, true, All, Contains, IfOk, OnOk, Some, slice_get, slice_set};
 ghost use Rattle.palm_cert.specs.Certificate.{claim_var, claimed};
 ghost use Rattle.palm_cert.specs.Needs.{AreNeeds, AreSteps, IsNumbered, IsNumberOf, IsOfBook, cites_of, numbers_at, removals_at};
 ghost use Rattle.palm_explain.specs.Explanations.{IsLinked};
@@ -55,15 +55,6 @@ fn steps_of(
     Ok(steps)
 }
 
-/// Makes the list as many marks, none of them set.
-fn unmark(count: usize, marks: &mut Vec<bool>) -> Result<(), NoMemory>
-    ensures { OnOk result (marks.new.items ≡ replicate count false) }
-{
-    marks.clear();
-    marks.resize(count, false)?;
-    Ok(())
-}
-
 /// Sets a mark.
 fn set(marks: &mut Vec<bool>, place: usize)
     requires { place < length marks.old.items }
@@ -83,8 +74,7 @@ fn cited_by(
     requires within { All (λ place. place < length log.now.log) steps.now }
     ensures { IfOk result (λ cited. cited.items ≡ cites_of book.now (removals_at log.now.log steps.now)) }
 {
-    let mut cited = Vec::new(alloc);
-    unmark(book.constraints(), &mut cited)?;
+    let mut cited = vec![in alloc; false; book.constraints()]?;
     for place in steps {
         cite(book, number_of(log.by_at(*place)), &mut cited);
     }

@@ -1,13 +1,13 @@
 //! What is kept of a certificate besides what it lists: how far it has come, and the pairs that its steps proved.
 ghost use Rattle.std.specs.Prelude.{All, IfOk, OnOk};
+ghost use Rattle.palm_base.specs.Tells.{Tells};
 ghost use Rattle.palm_book.specs.Book.{Contents};
 ghost use Rattle.palm_check.specs.Kept.{HasDeclared, IsKept, TakesPhrase, said};
 ghost use Rattle.palm_claim.specs.Draft.{IsOpen, Leads, MayFollow};
 ghost use Rattle.palm_claim.specs.Statement.{IsStepNumber};
 ghost use Rattle.palm_claim.specs.declared.statement.CertificatePhrase.TheVariants as phrases;
 
-use crate::phrases::{is_lead, read_phrase};
-use crate::stages::may_stand;
+use crate::phrases::read_phrase;
 use palm_base::{NoMemory, Pair, Value};
 use palm_book::Book;
 use palm_claim::{Cause, CertificatePhrase, Claim, Proved, Stage, Statement, Verdict};
@@ -50,7 +50,10 @@ impl Body for CertificateBody {
     ghost of_book = { λ book body. refl };
 
     fn is_lead(word: &[u8]) -> bool {
-        is_lead(word)
+        word == b"step".as_slice()
+            || word == b"claim".as_slice()
+            || word == b"end".as_slice()
+            || word == b"palm".as_slice()
     }
 
     fn read(cursor: &mut Cursor<'_>, alloc: Global) -> Result<CertificatePhrase, LineError> {
@@ -65,7 +68,12 @@ impl Body for CertificateBody {
     }
 
     fn may_stand(&self, statement: &Statement<CertificatePhrase>) -> bool {
-        may_stand(&self.stage, statement)
+        match statement {
+            Statement::Comment => true,
+            Statement::Variable { .. } => matches!(self.stage, Stage::Declaring),
+            Statement::Constraint { .. } => matches!(self.stage, Stage::Declaring | Stage::Listing),
+            Statement::Phrase(phrase) => may_follow(&self.stage, phrase),
+        }
     }
 
     fn declared(&mut self) -> Result<(), NoMemory> {
@@ -194,5 +202,20 @@ impl CertificateBody {
         if let Stage::Claimed(claim) = stage {
             self.stage = Stage::Closed(claim);
         }
+    }
+}
+
+/// Whether the phrase may stand behind the lines so far.
+fn may_follow(stage: &Stage, phrase: &CertificatePhrase) -> bool
+    ensures { Tells result (MayFollow stage.now phrase.now) }
+{
+    match phrase {
+        CertificatePhrase::Header => matches!(stage, Stage::Unopened),
+        CertificatePhrase::Step { .. }
+        | CertificatePhrase::ValueClaim { .. }
+        | CertificatePhrase::ConflictClaim(_) => {
+            matches!(stage, Stage::Declaring | Stage::Listing | Stage::Proving)
+        }
+        CertificatePhrase::End => matches!(stage, Stage::Claimed(_)),
     }
 }

@@ -3,7 +3,6 @@
 
 mod body;
 mod phrases;
-mod stages;
 mod verdict;
 
 pub use palm_claim::{Cause, Proved, Verdict};

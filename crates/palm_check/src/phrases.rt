@@ -1,22 +1,11 @@
 //! Reading the phrases of certificates.
-ghost use Rattle.std.specs.Prelude.{◌≡◌};
-ghost use Rattle.palm_claim.specs.Reader.{claim_at, is_lead, phrase_at, step_at};
+ghost use Rattle.palm_claim.specs.Reader.{claim_at, phrase_at, step_at};
 ghost use Rattle.palm_read.specs.Reader.Held.{Gives};
 
 use palm_claim::CertificatePhrase;
 use palm_read::{Cursor, LineError, Name};
 use std::alloc::Global;
 use text_check::{read_header, read_reasons, read_value};
-
-/// Whether a phrase begins with the word.
-pub fn is_lead(word: &[u8]) -> bool
-    ensures { result ≡ is_lead word.now }
-{
-    word == b"step".as_slice()
-        || word == b"claim".as_slice()
-        || word == b"end".as_slice()
-        || word == b"palm".as_slice()
-}
 
 /// Reads a phrase by its first word.
 #[tactic(auto, unfolding(palm_claim::specs::Reader::phrase_at, palm_read::specs::Reader::Steps::when, palm_read::specs::Reader::Steps::and_then))]

@@ -1,6 +1,8 @@
 -- What is assumed, by variables.
-use Rattle.std.proofs.Common.{◌≡◌, ℕ, zero, suc, ℤ, ◌+◌, ◌-◌, ◌<◌, true, false, Option, Some, None, option_map, List, [], ◌∷◌, ◌++◌, length, get_or, take, take_all, drop, append-nil, map, All, Contains, inl, inr, refl, sym, ap, ◌∙◌, subst, arith}
-use Rattle.std.specs.Prelude.{is_some, slice_get}
+use Rattle.std.proofs.Common.{◌≡◌, ℕ, zero, suc, ℤ, ◌+◌, ◌-◌, ◌<◌, Bool, true, false, Option, Some, None, option_map, List, [], ◌∷◌, ◌++◌, length, get_or, take, take_all, drop, append-nil, map, All, Contains, inl, inr, refl, sym, ap, ◌∙◌, subst, arith, slice_get}
+use Rattle.std.specs.Prelude.{is_some}
+use Rattle.palm_base.specs.Tells.{Tells}
+use Rattle.palm_base.proofs.cited.Telling.{tells_same}
 use Rattle.std.proofs.lemmas.Bool.{cases_eq, false≢true, true≢false}
 use Rattle.std.proofs.lemmas.List.{drop_all, take_more}
 use Rattle.std.proofs.lemmas.List.Elements.{Contains-append_left, Contains-push, Contains-push_cases}
@@ -96,7 +98,7 @@ pub assumed_other : (pairs : List Pair) (xs : List (Option ℤ)) (p : Pair) → 
 assumed_other pairs xs p a s = record { other = s.other.value; given = ap (assumed_at xs) (sym s.var) ∙ a.each s.other s.given; differs = s.value }
 
 module _ (given : List Pair) (lemmas : List Lemma) (xs : List (Option ℤ)) (assumes : AreAssumed given xs) (number : ℕ) (lemma : Lemma) (at : slice_get lemmas (number - 1) ≡ Some lemma) (p : Pair) where
-  pub by_others_of_lemma : IsByOthers xs lemma.pairs p → IsOfLemma (record { pairs = given; lemmas = map (λ l. l.pairs) lemmas }) number p
+  by_others_of_lemma : IsByOthers xs lemma.pairs p → IsOfLemma (record { pairs = given; lemmas = map (λ l. l.pairs) lemmas }) number p
   by_others_of_lemma b = record {
     pairs = lemma.pairs;
     stands = slice_get-map (λ (l : Lemma). l.pairs) lemmas (number - 1) ∙ ap (λ (o : Option Lemma). option_map (λ (l : Lemma). l.pairs) o) at;
@@ -104,13 +106,16 @@ module _ (given : List Pair) (lemmas : List Lemma) (xs : List (Option ℤ)) (ass
     others = λ q m ne. assumes.only q.var q.value (b.others q m ne);
   }
 
-  pub of_lemma_by_others : IsOfLemma (record { pairs = given; lemmas = map (λ l. l.pairs) lemmas }) number p → IsByOthers xs lemma.pairs p
+  of_lemma_by_others : IsOfLemma (record { pairs = given; lemmas = map (λ l. l.pairs) lemmas }) number p → IsByOthers xs lemma.pairs p
   of_lemma_by_others o =
       let same : o.pairs ≡ lemma.pairs = same_Some o.pairs lemma.pairs (sym o.stands ∙ slice_get-map (λ (l : Lemma). l.pairs) lemmas (number - 1) ∙ ap (λ (r : Option Lemma). option_map (λ (l : Lemma). l.pairs) r) at) in
       record {
         among = subst (λ (ps : List Pair). Contains ps p) same o.among;
         others = λ q m ne. assumes.each q (o.others q (subst (λ (ps : List Pair). Contains ps q) (sym same) m) ne);
       }
+
+  pub tells_of_lemma : (result : Bool) → Tells result (IsByOthers xs lemma.pairs p) → Tells result (IsOfLemma (record { pairs = given; lemmas = map (λ l. l.pairs) lemmas }) number p)
+  tells_of_lemma result tells = tells_same (IsByOthers xs lemma.pairs p) (IsOfLemma (record { pairs = given; lemmas = map (λ l. l.pairs) lemmas }) number p) result by_others_of_lemma of_lemma_by_others tells
 
 -- ---- going over a list
 

@@ -9,20 +9,14 @@ use palm_base::{Pair, Value, Var};
 pub fn value_of(assumed: &[Option<Value>], var: Var) -> Option<Value>
     ensures { result ≡ assumed_at assumed.now var }
 {
-    match assumed.get(var.0 as usize) {
-        Some(value) => *value,
-        None => None,
-    }
+    *assumed.get(var.0 as usize)?
 }
 
 /// Whether the pair is assumed.
 pub fn is_assumed(assumed: &[Option<Value>], pair: &Pair) -> bool
     ensures { Tells result (assumed_at assumed.now pair.now.var ≡ Some pair.now.value) }
 {
-    match value_of(assumed, pair.var) {
-        Some(value) => value == pair.value,
-        None => false,
-    }
+    value_of(assumed, pair.var) == Some(pair.value)
 }
 
 /// Whether another value is assumed for the pair's variable.

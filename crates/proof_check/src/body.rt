@@ -1,16 +1,13 @@
 //! What is kept of a proof besides what it lists: how far it has come, the lemmas that are done, and of the lemma begun what it
 //! assumes, what its steps name and the pairs that they proved.
-ghost use Rattle.std.specs.Prelude.{◌≡◌, ◌<◌, ◌≤◌, [], Some, length, slice_get, All, IfOk, OnOk};
+ghost use Rattle.std.specs.Prelude.{◌≡◌, [], All, IfOk, OnOk};
 ghost use Rattle.palm_base.specs.Tells.{Tells};
 ghost use Rattle.palm_book.specs.Book.{Contents, initial_of};
-ghost use Rattle.palm_book.specs.declared.book.BookCon.{BookCon as BookConTerm};
 ghost use Rattle.palm_claim.specs.Statement.{IsStepNumber};
-ghost use Rattle.palm_claim.specs.Step.{IsOfLemma};
 ghost use Rattle.palm_claim.specs.declared.ground.Ground.TheVariants as Ground;
 ghost use Rattle.palm_model.specs.Domains.{Has};
-ghost use Rattle.proof_check.specs.Kept.{AssumesOrNot, IsReasoned, IsKept, TakesGround, TakesPhrase, noting_constraint, noting_lemma, said};
-ghost use Rattle.proof_check.specs.Marks.{IsUsage};
-ghost use Rattle.proof_text.specs.Draft.{Leads, MayFollow, given_in, with_lemma, with_step, with_wipe};
+ghost use Rattle.proof_check.specs.Kept.{AssumesOrNot, IsReasoned, IsKept, TakesGround, TakesPhrase, said};
+ghost use Rattle.proof_text.specs.Draft.{Leads, MayFollow, with_lemma, with_wipe};
 ghost use Rattle.proof_text.specs.Statement.{IsGroundInRange, IsLemmaNumber};
 ghost use Rattle.proof_text.specs.declared.statement.ProofPhrase.TheVariants as phrases;
 ghost use Rattle.proof_text.specs.declared.statement.Stage.TheVariants as Stage;
@@ -18,8 +15,7 @@ ghost use Rattle.proof_text.specs.declared.statement.Stage.TheVariants as Stage;
 use crate::assumed::{forget, is_other_assumed, put, value_of};
 use crate::lemmas::{copy_lemma, is_by_others, unproved_lemma};
 use crate::marks::usage;
-use crate::phrases::{is_lead, read_phrase};
-use crate::stages::may_stand;
+use crate::phrases::read_phrase;
 use crate::users::{are_listed, are_names, marked_users};
 use palm_base::{NoMemory, Pair, Value};
 use palm_book::Book;
@@ -71,7 +67,12 @@ impl Body for ProofBody {
     ghost of_book = { λ book body. refl };
 
     fn is_lead(word: &[u8]) -> bool {
-        is_lead(word)
+        word == b"step".as_slice()
+            || word == b"lemma".as_slice()
+            || word == b"wipe".as_slice()
+            || word == b"none".as_slice()
+            || word == b"end".as_slice()
+            || word == b"palm".as_slice()
     }
 
     fn read(cursor: &mut Cursor<'_>, alloc: Global) -> Result<ProofPhrase, LineError> {
@@ -89,7 +90,12 @@ impl Body for ProofBody {
     }
 
     fn may_stand(&self, statement: &Statement<ProofPhrase>) -> bool {
-        may_stand(&self.stage, statement)
+        match statement {
+            Statement::Comment => true,
+            Statement::Variable { .. } => matches!(self.stage, Stage::Declaring),
+            Statement::Constraint { .. } => matches!(self.stage, Stage::Declaring | Stage::Listing),
+            Statement::Phrase(phrase) => may_follow(&self.stage, phrase),
+        }
     }
 
     /// Nothing is assumed for the variable.
@@ -243,25 +249,12 @@ impl ProofBody {
         match check_step(alloc, listed, &self.proved, &pair, by, reasons)? {
             Err(cause) => Ok(Some(cause)),
             Ok(place) => {
-                self.add_step_by(listed, pair, place)?;
+                let number = listed.book.constraint(place).number;
+                self.begun.constraints.push(u64::from(number))?;
+                self.proved.push(pair)?;
                 Ok(None)
             }
         }
-    }
-
-    /// Adds a step of the pair by the constraint at a place.
-    fn add_step_by(&mut self, listed: &Listed, pair: Pair, place: usize) -> Result<(), NoMemory>
-        requires kept { IsKept listed.now self.old }
-        requires place { place < length listed.now.book.constraints }
-        requires declared { Has (initial_of listed.now.book) pair.var pair.value }
-        ensures ok { OnOk result ((c : BookConTerm) → slice_get listed.now.book.constraints place ≡ Some c
-            → said listed.now.book self.new ≡ with_step (said listed.now.book self.old) pair (noting_constraint self.old.begun c.number)) }
-        ensures kept { OnOk result (IsKept listed.now self.new) }
-    {
-        let number = listed.book.constraint(place).number;
-        self.begun.constraints.push(u64::from(number))?;
-        self.proved.push(pair)?;
-        Ok(())
     }
 
     /// Takes a step of a declared pair by what is assumed.
@@ -297,32 +290,13 @@ impl ProofBody {
         if number > self.lemmas.len() as u64 {
             return Ok(Some(Cause::Unproved));
         }
-        if !self.is_of_lemma(&pair, number) {
+        let lemma = &self.lemmas.as_slice()[number as usize - 1];
+        if !is_by_others(&self.assumed, lemma.pairs.as_slice(), &pair) {
             return Ok(Some(Cause::NotRight));
         }
-        self.add_step_of_lemma(pair, number)?;
-        Ok(None)
-    }
-
-    /// Whether the pair is one of the lemma with the number, and all other pairs of that lemma are assumed.
-    fn is_of_lemma(&self, pair: &Pair, number: u64) -> bool
-        requires kept { (book : Contents) × IsReasoned book self.now }
-        requires early { (1 ≤ number) × (number ≤ length self.now.lemmas) }
-        ensures { (book : Contents) → Tells result (IsOfLemma (given_in (said book self.now)) number pair.now) }
-    {
-        let lemma = &self.lemmas.as_slice()[number as usize - 1];
-        is_by_others(&self.assumed, lemma.pairs.as_slice(), pair)
-    }
-
-    /// Adds a step of the pair by the lemma with the number.
-    fn add_step_of_lemma(&mut self, pair: Pair, number: u64) -> Result<(), NoMemory>
-        requires { (1 ≤ number) × (number ≤ length self.old.lemmas) }
-        ensures ok { OnOk result ((book : Contents) → said book self.new ≡ with_step (said book self.old) pair (noting_lemma self.old.begun number)) }
-        ensures kept { OnOk result ((book : Contents) → Has (initial_of book) pair.var pair.value → IsReasoned book self.old → IsReasoned book self.new) }
-    {
         self.begun.lemmas.push(number)?;
         self.proved.push(pair)?;
-        Ok(())
+        Ok(None)
     }
 
     /// Takes the wipe of a variable, with which the lemma begun is done.
@@ -370,25 +344,13 @@ impl ProofBody {
         if self.begun.pairs.len() > 0 {
             return Ok(Some(Cause::NotReached));
         }
-        let marks = self.usage(alloc, &listed.book)?;
+        let most = listed.book.constraints();
+        let marks = usage(alloc, most, self.lemmas.as_slice(), &self.begun)?;
         if !are_names(&listed.book, &marks, names) {
             return Ok(Some(Cause::NotReached));
         }
         self.stage = Stage::Told(marked_users(alloc, &listed.book, &marks)?);
         Ok(None)
-    }
-
-    /// Marks of the constraints that the last lemma uses, by their numbers.
-    fn usage(&self, alloc: Global, book: &Book) -> Result<Vec<bool>, NoMemory>
-        requires { IsReasoned book.now self.now }
-        ensures { IfOk result (λ marks. IsUsage self.now.lemmas self.now.begun marks.items) }
-    {
-        usage(
-            alloc,
-            book.constraints(),
-            self.lemmas.as_slice(),
-            &self.begun,
-        )
     }
 
     /// Takes the end.
@@ -401,5 +363,18 @@ impl ProofBody {
         if let Stage::Told(users) = stage {
             self.stage = Stage::Closed(users);
         }
+    }
+}
+
+/// Whether the phrase may stand behind the lines so far.
+fn may_follow(stage: &Stage, phrase: &ProofPhrase) -> bool
+    ensures { Tells result (MayFollow stage.now phrase.now) }
+{
+    match phrase {
+        ProofPhrase::Header => matches!(stage, Stage::Unopened),
+        ProofPhrase::Lemma(_) => matches!(stage, Stage::Declaring | Stage::Listing | Stage::Wiped),
+        ProofPhrase::Step { .. } | ProofPhrase::Wipe(_) => matches!(stage, Stage::Reasoning),
+        ProofPhrase::Users(_) => matches!(stage, Stage::Wiped),
+        ProofPhrase::End => matches!(stage, Stage::Told(_)),
     }
 }

@@ -7,7 +7,6 @@ mod body;
 mod lemmas;
 mod marks;
 mod phrases;
-mod stages;
 mod users;
 mod verdict;
 

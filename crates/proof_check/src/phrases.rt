@@ -1,8 +1,8 @@
 //! Reading the phrases of proofs.
-ghost use Rattle.std.specs.Prelude.{◌≡◌, option_map};
+ghost use Rattle.std.specs.Prelude.{option_map};
 ghost use Rattle.palm_read.specs.Reader.Held.{Gives};
 ghost use Rattle.palm_read.specs.Reader.Lists.{many_at};
-ghost use Rattle.proof_text.specs.Reader.{by_at, ground_at, is_lead, lemma_at, lemma_number_at, next_pair, of_lemma_at, phrase_at, step_at, users_at, wipe_at};
+ghost use Rattle.proof_text.specs.Reader.{ground_at, next_pair, of_lemma_at, phrase_at, step_at};
 
 use palm_claim::Ground;
 use palm_read::{Cursor, LineError, Name};
@@ -10,46 +10,25 @@ use proof_text::{NamedPair, NamedPairList, ProofPhrase};
 use std::alloc::Global;
 use text_check::{number_up_to, read_header, read_reasons, read_value};
 
-/// Whether a phrase begins with the word.
-pub fn is_lead(word: &[u8]) -> bool
-    ensures { result ≡ is_lead word.now }
-{
-    word == b"step".as_slice()
-        || word == b"lemma".as_slice()
-        || word == b"wipe".as_slice()
-        || word == b"none".as_slice()
-        || word == b"end".as_slice()
-        || word == b"palm".as_slice()
-}
-
 /// Reads a phrase by its first word.
-#[tactic(auto, unfolding(proof_text::specs::Reader::phrase_at, palm_read::specs::Reader::Steps::when, palm_read::specs::Reader::Steps::and_then))]
+#[tactic(auto, unfolding(proof_text::specs::Reader::phrase_at, proof_text::specs::Reader::lemma_at, proof_text::specs::Reader::wipe_at, proof_text::specs::Reader::users_at, palm_read::specs::Reader::Steps::when, palm_read::specs::Reader::Steps::and_then))]
 pub fn read_phrase(cursor: &mut Cursor<'_>, alloc: Global) -> Result<ProofPhrase, LineError>
     ensures { Gives (λ phrase. phrase) result cursor.new (phrase_at cursor.old) }
 {
     if cursor.takes_word(b"step") {
         step(cursor, alloc)
     } else if cursor.takes_word(b"lemma") {
-        lemma(cursor, alloc)
+        Ok(ProofPhrase::Lemma(pairs(cursor, alloc)?))
     } else if cursor.takes_word(b"wipe") {
-        wipe(cursor, alloc)
+        Ok(ProofPhrase::Wipe(cursor.owned_name(alloc)?))
     } else if cursor.takes_word(b"none") {
-        users(cursor, alloc)
+        Ok(ProofPhrase::Users(cursor.names(alloc, 0)?))
     } else if cursor.takes_word(b"end") {
         Ok(ProofPhrase::End)
     } else {
         read_header(cursor, b"proof")?;
         Ok(ProofPhrase::Header)
     }
-}
-
-/// Reads the pairs of a lemma, which may be none.
-#[tactic(auto, unfolding(proof_text::specs::Reader::lemma_at, palm_read::specs::Reader::Steps::and_then))]
-fn lemma(cursor: &mut Cursor<'_>, alloc: Global) -> Result<ProofPhrase, LineError>
-    ensures { Gives (λ phrase. phrase) result cursor.new (lemma_at cursor.old) }
-{
-    let pairs = pairs(cursor, alloc)?;
-    Ok(ProofPhrase::Lemma(pairs))
 }
 
 /// Reads a name, a value and why the step takes the pair out.
@@ -67,31 +46,15 @@ fn step(cursor: &mut Cursor<'_>, alloc: Global) -> Result<ProofPhrase, LineError
     })
 }
 
-/// Reads the name of the variable that has no value left.
-#[tactic(auto, unfolding(proof_text::specs::Reader::wipe_at, palm_read::specs::Reader::Steps::and_then))]
-fn wipe(cursor: &mut Cursor<'_>, alloc: Global) -> Result<ProofPhrase, LineError>
-    ensures { Gives (λ phrase. phrase) result cursor.new (wipe_at cursor.old) }
-{
-    let name = cursor.owned_name(alloc)?;
-    Ok(ProofPhrase::Wipe(name))
-}
-
-/// Reads the names of constraints, which may be none.
-#[tactic(auto, unfolding(proof_text::specs::Reader::users_at, palm_read::specs::Reader::Steps::and_then))]
-fn users(cursor: &mut Cursor<'_>, alloc: Global) -> Result<ProofPhrase, LineError>
-    ensures { Gives (λ phrase. phrase) result cursor.new (users_at cursor.old) }
-{
-    let names = cursor.names(alloc, 0)?;
-    Ok(ProofPhrase::Users(names))
-}
-
 /// Reads why a step takes its pair out.
-#[tactic(auto, unfolding(proof_text::specs::Reader::ground_at, palm_read::specs::Reader::Steps::when))]
+#[tactic(auto, unfolding(proof_text::specs::Reader::ground_at, proof_text::specs::Reader::by_at, palm_read::specs::Reader::Steps::and_then, palm_read::specs::Reader::Steps::when))]
 fn step_ground(cursor: &mut Cursor<'_>, alloc: Global) -> Result<Ground, LineError>
     ensures { Gives (λ why. why) result cursor.new (ground_at cursor.old) }
 {
     if cursor.takes_word(b"by") {
-        by(cursor, alloc)
+        let name = cursor.owned_name(alloc)?;
+        let reasons = read_reasons(cursor, alloc)?;
+        Ok(Ground::By { name, reasons })
     } else if cursor.takes_word(b"assume") {
         Ok(Ground::Assumed)
     } else {
@@ -99,36 +62,17 @@ fn step_ground(cursor: &mut Cursor<'_>, alloc: Global) -> Result<Ground, LineErr
     }
 }
 
-/// Reads the name of a constraint, and reasons.
-#[tactic(auto, unfolding(proof_text::specs::Reader::by_at, palm_read::specs::Reader::Steps::and_then))]
-fn by(cursor: &mut Cursor<'_>, alloc: Global) -> Result<Ground, LineError>
-    ensures { Gives (λ why. why) result cursor.new (by_at cursor.old) }
-{
-    let name = cursor.owned_name(alloc)?;
-    let reasons = read_reasons(cursor, alloc)?;
-    Ok(Ground::By { name, reasons })
-}
-
 /// Reads `lemma` and a number.
-#[tactic(auto, unfolding(proof_text::specs::Reader::of_lemma_at, palm_read::specs::Reader::Steps::and_then))]
+#[tactic(auto, unfolding(proof_text::specs::Reader::of_lemma_at, proof_text::specs::Reader::lemma_number_at, palm_read::specs::Reader::Steps::and_then, palm_read::specs::Reader::Steps::choose))]
 fn of_lemma(cursor: &mut Cursor<'_>) -> Result<Ground, LineError>
     ensures { Gives (λ why. why) result cursor.new (of_lemma_at cursor.old) }
 {
     cursor.keyword(b"lemma")?;
-    let number = lemma_number(cursor)?;
-    Ok(Ground::OfLemma(number))
-}
-
-/// Reads the number of a lemma.
-#[tactic(auto, unfolding(proof_text::specs::Reader::lemma_number_at, palm_read::specs::Reader::Steps::and_then, palm_read::specs::Reader::Steps::choose))]
-fn lemma_number(cursor: &mut Cursor<'_>) -> Result<u64, LineError>
-    ensures { Gives (λ number. number) result cursor.new (lemma_number_at cursor.old) }
-{
     let Some(digits) = cursor.digits() else {
         return Err(LineError::Form);
     };
     match number_up_to(u64::MAX, digits) {
-        Some(number) => Ok(number),
+        Some(number) => Ok(Ground::OfLemma(number)),
         None => Err(LineError::Form),
     }
 }

@@ -1,10 +1,8 @@
--- Lines of a proof, and what of them is written at a place.
-use Rattle.std.specs.Prelude.{ℕ, List, [], ◌∷◌, map, codes, decimal}
+-- Lines of a proof.
+use Rattle.std.specs.Prelude.{ℕ, List, [], ◌∷◌, codes, decimal}
 use Rattle.std.specs.Fmt.{signed_decimal}
 use Rattle.palm_base.specs.declared.terms.Pair.{Pair}
 use Rattle.palm_book.specs.Book.{BookVar, name_of}
-use Rattle.palm_book.specs.declared.book.BookCon.{BookCon}
-use Rattle.palm_cert.specs.Needs.{marked_at}
 use Rattle.palm_read.specs.Lines.{ended}
 use Rattle.palm_read.specs.Words.{spaced}
 
@@ -15,7 +13,3 @@ assumed_line variables pair = ended (spaced (codes "step" ∷ name_of variables 
 -- "step" NAME VALUE "lemma" K
 abbrev pub given_line : List BookVar → Pair → ℕ → List ℕ
 given_line variables pair number = ended (spaced (codes "step" ∷ name_of variables pair.var ∷ signed_decimal pair.value ∷ codes "lemma" ∷ decimal number ∷ []))
-
--- the constraint at the place, where it is active
-abbrev pub active_at : List BookCon → ℕ → List BookCon
-active_at constraints place = marked_at (map (λ c. c.active) constraints) constraints place

@@ -1,10 +1,9 @@
 //! Writing what a proof is of: the variables and the active constraints.
-ghost use Rattle.std.specs.Prelude.{◌<◌, length, filter, flat_map};
+ghost use Rattle.std.specs.Prelude.{filter, flat_map};
 ghost use Rattle.palm_cert.specs.Certificate.{added_line};
 ghost use Rattle.palm_lang.specs.Writer.{Wrote};
 ghost use Rattle.palm_lang.specs.Writing.{Writes};
 ghost use Rattle.proof_run.specs.Text.{declarations};
-ghost use Rattle.proof_write.specs.Lines.{active_at};
 
 use palm_base::Sink;
 use palm_cert::write_added;
@@ -35,23 +34,10 @@ fn write_constraints<K: Sink>(book: &Book, writer: &mut Writer<'_, K>) -> Result
     ensures { Wrote K.state writer.old writer.new (flat_map (added_line book.now.variables) (filter (λ c. c.active) book.now.constraints)) result }
 {
     for place in 0..book.constraints() {
-        write_constraint(book, place, writer)?;
+        let entry = book.constraint(place);
+        if entry.active {
+            write_added(book, entry, writer)?;
+        }
     }
     Ok(())
-}
-
-/// Writes the constraint at a place, where it is active.
-fn write_constraint<K: Sink>(
-    book: &Book,
-    place: usize,
-    writer: &mut Writer<'_, K>,
-) -> Result<(), WriteStop>
-    requires { place < length book.now.constraints }
-    ensures { Wrote K.state writer.old writer.new (flat_map (added_line book.now.variables) (active_at book.now.constraints place)) result }
-{
-    let entry = book.constraint(place);
-    if !entry.active {
-        return Ok(());
-    }
-    write_added(book, entry, writer)
 }

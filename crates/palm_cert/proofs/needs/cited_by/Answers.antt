@@ -1,5 +1,5 @@
-use Rattle.std.proofs.Common.{◌∙◌, ◌<◌, ℕ, List, false, replicate, length, take, take_all, Contains, slice_index_or, ap}
-use Rattle.std.proofs.lemmas.List.{get_or_default}
+use Rattle.std.proofs.Common.{◌∙◌, ◌<◌, ℕ, List, false, replicate, length, take, Contains, slice_index_or, ap}
+use Rattle.std.proofs.lemmas.List.{take_all, get_or_default}
 use Rattle.std.proofs.lemmas.List.Elements.{All-contains}
 use Rattle.palm_model.specs.Log.{Removal}
 use Rattle.palm_cert.specs.Needs.{cites_of, removals_at}
@@ -20,7 +20,7 @@ number_of-requires c =
     user_numbered c.args.book.now c.by_at.result (user_at_place c.args.book.now c.args.log.now.log c.requires.logged (slice_index_or c.args.steps.now c.loop-place.place-index 0) within c.by_at.result c.by_at.ensures)
 
 pub loop-place-init : goal.loop-place-init
-loop-place-init c = c.in_ok-unmark.ensures ∙ ap (λ (n : ℕ). replicate n false) c.constraints.ensures.count ∙ uncited c.args.book.now.constraints
+loop-place-init c = c.in_ok-cited.ensures.items_if_clones_equal (λ y e. e) ∙ ap (λ (n : ℕ). replicate n false) c.constraints.ensures.count ∙ uncited c.args.book.now.constraints
 
 pub loop-place-preserved : goal.loop-place-preserved
 loop-place-preserved c =

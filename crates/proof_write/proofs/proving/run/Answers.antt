@@ -10,7 +10,7 @@ use Rattle.palm_search.specs.Turning.{IsNext}
 use Rattle.palm_search.specs.declared.turn.Turn.TheVariants.{Undo as TurnUndo}
 use Rattle.palm_search.proofs.cited.Lending.{broken_on, has_run_on, interrupted_on, runs_then, settled_on}
 use Rattle.palm_search.proofs.cited.Results.{on_err}
-use Rattle.palm_search.proofs.cited.Running.{cut_first, cut_here, cut_settling, cut_undoing, fewer_left, fresh_has, interrupted_has}
+use Rattle.palm_search.proofs.cited.Running.{fewer_left, fresh_has, interrupted_has}
 use Rattle.palm_search.proofs.cited.Stopping.{cut_first_by, cut_here_by, cut_settling_by, cut_undoing_by, decision_stops, order_silent, order_stops}
 use Rattle.proof_run.specs.SoFar.Follows.{a_lemma, an_end}
 use Rattle.proof_write.specs.Numbers.{AreNumbers}

@@ -1,8 +1,10 @@
-use Rattle.std.proofs.Common.{◌≡◌, ◌∙◌, Some, ap, inr, refl, slice_get}
+use Rattle.std.proofs.Common.{ℕ, ◌≤◌, List, length, ◌≡◌, ◌∙◌, Some, ap, arith, inr, refl, slice_get, sym}
+use Rattle.std.proofs.lemmas.List.Elements.{All-contains}
+use Rattle.std.proofs.lemmas.Option.{same_Some}
 use Rattle.palm_base.proofs.cited.Members.{member_get}
-use Rattle.palm_book.specs.Book.{Contents}
-use Rattle.proof_text.specs.Draft.{with_step}
-use Rattle.proof_check.specs.Kept.{noting_constraint, said}
+use Rattle.palm_book.specs.declared.book.BookCon.{BookCon}
+use Rattle.proof_check.specs.Kept.{noting_constraint}
+use Rattle.proof_check.proofs.Keeping.{keeps_step_by}
 use Rattle.proof_check.proofs.body.ProofBody.prove_by.Goals as goal
 
 pub check_step-requires-clause-proved : goal.check_step-requires-clause-proved
@@ -15,12 +17,36 @@ returns-in-Err-clause-takes c = λ name value is.
 pub returns-in-Err-clause-kept : goal.returns-in-Err-clause-kept
 returns-in-Err-clause-kept c = record { lists = c.in_ok-cause.ensures.listed; kept = rw c.in_ok-cause.ensures.same c.requires.kept.kept }
 
-pub returns-in_ok-add_step_by-in-Ok-clause-takes : goal.returns-in_ok-add_step_by-in-Ok-clause-takes
-returns-in_ok-add_step_by-in-Ok-clause-takes c = λ name value is.
+pub returns-in_ok-push-in-Ok-2-clause-takes : goal.returns-in_ok-push-in-Ok-2-clause-takes
+returns-in_ok-push-in-Ok-2-clause-takes c = λ name value is.
+    let cs = c.args.listed.now.book.constraints in
+    let con = c.constraint.result.now in
+    let checks = rw (c.deref.ensures.value, c.in-Ok.is) at c.in_ok-cause.ensures.checks in
+    let at : slice_get cs c.in-Ok.place ≡ Some con = rw c.in_ok-cause.ensures.same at c.constraint.ensures.at in
+    let named = ap (λ (o : BookCon). o.name) (sym (same_Some checks.owner con (sym checks.at ∙ at))) ∙ checks.named in
+    let grown = rw c.from.ensures at c.in_ok-push-in-Ok.ensures.ok in (
+      (λ n. n c.requires.stands, checks.none name value is),
+      (
+        c.args.pair,
+        noting_constraint c.args.self.now.begun con.number,
+        is,
+        (con, member_get cs c.in-Ok.place con at, named, refl),
+        rw (c.in_ok-push-in-Ok-2.ensures.items, grown, c.in_ok-cause.ensures.same) refl,
+      ),
+    )
+
+pub returns-in_ok-push-in-Ok-2-clause-kept : goal.returns-in_ok-push-in-Ok-2-clause-kept
+returns-in_ok-push-in-Ok-2-clause-kept c =
     let book = c.args.listed.now.book in
     let now = c.args.self.now in
-    let checks = rw (c.deref.ensures.value, c.in-Ok.is) at c.in_ok-cause.ensures.checks in
-    let owner = checks.owner in
-    let at_now : slice_get c.check_step.new.listed.book.constraints c.in-Ok.place ≡ Some owner = rw c.in_ok-cause.ensures.same checks.at in
-    let step = c.in_ok-add_step_by-in-Ok.ensures.ok owner at_now ∙ ap (λ (b : Contents). with_step (said b now) c.args.pair (noting_constraint now.begun owner.number)) c.in_ok-cause.ensures.same in
-    ((λ n. n c.requires.stands, checks.none name value is), (c.args.pair, noting_constraint now.begun owner.number, is, (owner, member_get book.constraints c.in-Ok.place owner checks.at, checks.named, refl), step))
+    let cs = book.constraints in
+    let con = c.constraint.result.now in
+    let at : slice_get cs c.in-Ok.place ≡ Some con = rw c.in_ok-cause.ensures.same at c.constraint.ensures.at in
+    let most : con.number ≤ length cs = All-contains (λ (d : BookCon). d.number ≤ length cs) cs con c.requires.kept.lists.numbers (member_get cs c.in-Ok.place con at) in
+    let grown = rw c.from.ensures at c.in_ok-push-in-Ok.ensures.ok in
+    record {
+      lists = c.in_ok-cause.ensures.listed;
+      kept = rw c.in_ok-cause.ensures.same
+          (keeps_step_by book now.lemmas now.begun now.assumed.items now.proved.items c.requires.kept.kept _ c.args.pair c.push-in-Ok.new.self.items con.number c.requires.declared c.in_ok-push-in-Ok-2.ensures.items
+          (ap (λ (ns : List ℕ). record now.begun { constraints = ns }) grown) (omega (arith, most)));
+    }

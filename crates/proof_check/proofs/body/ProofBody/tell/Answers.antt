@@ -30,7 +30,7 @@ returns-then-not-are_names-clause-takes c =
     let d = said c.args.listed.now.book c.args.self.now in
     let names = c.args.names.now in
     first_not_reached (Meets d (Phrase (Users names))) (λ n. n c.requires.stands) (none_unlisted d.book names c.if-not-are_listed.ensures) (λ h. h) (λ h. h) (λ h. h)
-    (other_names d names c.in_ok-marks.marks.items c.in_ok-marks.ensures
+    (other_names d names c.in_ok-marks.marks.items (rw c.as_slice.ensures at c.in_ok-marks.ensures)
     (subst (λ (ms : List Bool). names ≡ map (λ e. e.name) (marked_in ms d.book.constraints) → ⊥) c.deref.ensures.value c.if-not-are_names.ensures))
 
 pub returns-clause-takes : goal.returns-clause-takes
@@ -40,8 +40,8 @@ returns-clause-takes c =
     let marks = c.in_ok-marks.marks.items in
     let used = marked_in marks d.book.constraints in
     let named = subst (λ (ms : List Bool). names ≡ map (λ e. e.name) (marked_in ms d.book.constraints)) c.deref.ensures.value c.if-not-are_names.ensures in
-    let users = these_names d names marks c.in_ok-marks.ensures (omega (arith, c.if-len-gt0.false, c.len.ensures)) named in
+    let users = these_names d names marks (rw c.as_slice.ensures at c.in_ok-marks.ensures) (omega (arith, c.if-len-gt0.false, c.len.ensures)) named in
     let told = subst (λ (ms : List Bool). c.in_ok-marked_users.field-0 ≡ users_of (marked_in ms d.book.constraints)) c.deref-2.ensures.value c.in_ok-marked_users.ensures in (
       without_cause (Meets d (Phrase (Users names))) (λ n. n c.requires.stands) (none_unlisted d.book names c.if-not-are_listed.ensures) (λ h. h) (λ h. h) (λ h. h) (λ not. not users),
-      (used, marked_used d.book d.lemmas d.begun marks c.in_ok-marks.ensures, ap (λ (us : List Cid). at_stage d (Told us)) told),
+      (used, marked_used d.book d.lemmas d.begun marks (rw c.as_slice.ensures at c.in_ok-marks.ensures), ap (λ (us : List Cid). at_stage d (Told us)) told),
     )
