@@ -1,5 +1,5 @@
-//! How a withdrawal puts back what it loses, forgets its numbers, and closes up the log. A variable of which it puts values back stands in a list once: its row
-//! says where.
+//! How a withdrawal puts back what it loses, forgets its numbers, and closes up the log. A variable of which it puts values back stands
+//! in a list once: its row says where.
 ghost use Rattle.std.specs.Prelude.{◌≡◌, ◌⊎◌, ℕ, ◌+◌, ◌<◌, ◌≤◌, List, true, false, Some, ◌∷◌, [], length, take, Contains, slice_get, vec_capacity, vec_len};
 ghost use Rattle.palm_base.specs.declared.terms.Pair.{Pair as PairTerm};
 ghost use Rattle.palm_domain.specs.Rows.{IsDeclared, IsPresent};
@@ -36,7 +36,7 @@ pub(crate) fn put_back(
     ensures ends { (pairs : List PairTerm) → AreEnds restored.old.items pairs → Contains pairs pair → AreEnds restored.new.items pairs }
     ensures room { (vec_capacity restored.new ≡ vec_capacity restored.old) × (vec_len restored.new ≤ vec_len restored.old + 1) }
 {
-    store.put_back(pair);
+    store.put_back(pair.copy());
     note(rows, restored, pair);
 }
 
