@@ -1,5 +1,5 @@
 -- Which spans have a lost reason: what is told of their variables says it, or else which of their values are present.
-use Rattle.std.proofs.Common.{◌≡◌, ℕ, ℤ, ◌<◌, ◌≤ℤ◌, Bool, List, length, Contains, Some, slice_get, inl, inr, sym, ap, ◌∙◌, subst, arith}
+use Rattle.std.proofs.Common.{◌≡◌, ℕ, ℤ, ◌<◌, ◌≤ℤ◌, Bool, List, length, Contains, Some, slice_get, inl, inr, sym, subst, arith}
 use Rattle.std.proofs.lemmas.Int.{ints}
 use Rattle.palm_base.specs.Tells.{Tells}
 use Rattle.palm_base.specs.declared.terms.Pair.{Pair}
@@ -9,9 +9,9 @@ use Rattle.palm_domain.proofs.cited.StoreRows.{exists_from_present}
 use Rattle.palm_explain.specs.declared.restored.Restored.{Restored}
 use Rattle.palm_explain.specs.declared.rows.Row.{Row}
 use Rattle.palm_explain.specs.declared.spans.Span.{Span}
-use Rattle.palm_explain.specs.Entries.{span_pairs, span_values}
+use Rattle.palm_explain.specs.Entries.{span_values}
 use Rattle.palm_explain.specs.Losing.{AreToldBefore, HasEnd, HasLost, StandsWithin}
-use Rattle.palm_explain.specs.Rows.{number_at, span_in}
+use Rattle.palm_explain.specs.Rows.{span_in}
 use Rattle.palm_explain.proofs.Marking.{tells_like}
 use Rattle.palm_explain.proofs.MarkedSpans.{span_row}
 use Rattle.palm_explain.proofs.Reasons.{span_value, value_span}

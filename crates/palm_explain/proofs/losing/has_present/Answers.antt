@@ -1,4 +1,4 @@
-use Rattle.std.proofs.Common.{◌≤◌, ◌+◌, length, Contains, inl, inr, sym, ap, subst, arith}
+use Rattle.std.proofs.Common.{◌+◌, length, Contains, inl, inr, sym, ap, subst, arith}
 use Rattle.palm_base.proofs.cited.Members.{member_cases, member_here, member_nil, member_there}
 use Rattle.palm_domain.specs.Rows.{IsPresent}
 use Rattle.palm_explain.specs.Rows.{rest_in}

@@ -91,9 +91,11 @@ is_lost-requires-clause-told c =
     let e = c.index.result.now in
     let long = marked_length rows cid all c.args.start log place is.below in
     let within : place < length log = omega (arith, long, c.loop-place-test.true, c.len-place-end.ensures, c.args.log.now.ok.0) in
-    let at : slice_get log place ≡ Some e = slice_get-get_or log place e within ∙ ap Some (sym c.index.ensures) in
-    (marked_pairs log, told_now rows cid all next are c.args.start log place is.below e at c.loop-place.rows.items c.deref.result.now c.loop-place.restored.items c.deref-in-loop-place.result.now c.args.store.now c.loop-place.store c.requires.lacks is.back
-    (sym c.deref.ensures.value) (sym c.deref-in-loop-place.ensures.value))
+    let at : slice_get log place ≡ Some e = slice_get-get_or log place e within ∙ ap Some (sym c.index.ensures) in (
+      marked_pairs log,
+      told_now rows cid all next are c.args.start log place is.below e at c.loop-place.rows.items c.deref.result.now c.loop-place.restored.items c.deref-in-loop-place.result.now c.args.store.now c.loop-place.store c.requires.lacks is.back
+          (sym c.deref.ensures.value) (sym c.deref-in-loop-place.ensures.value),
+    )
 
 pub loop-place-preserved : goal.loop-place-preserved
 loop-place-preserved c =
