@@ -1,8 +1,8 @@
 -- The removals of a span in one row: what is left of them from a place on.
-use Rattle.std.proofs.Common.{◌≡◌, ℕ, ℤ, zero, suc, ◌+◌, ◌-◌, ◌<◌, ◌≤◌, ◌<ℤ◌, ◌≤ℤ◌, Bool, true, false, ◌&&◌, int_le, int_cmp, is_lt, cond, List, [], ◌∷◌, ◌++◌, length, drop, take, filter, get_or, Contains, Option, Some, None, IfSome, slice_get, inl, inr, refl, sym, ap, ◌∙◌, subst, arith}
+use Rattle.std.proofs.Common.{◌≡◌, ℕ, ℤ, zero, suc, ◌+◌, ◌-◌, ◌<◌, ◌≤◌, ◌<ℤ◌, ◌≤ℤ◌, Bool, true, false, ◌&&◌, int_le, int_cmp, is_lt, cond, List, [], ◌∷◌, ◌++◌, length, drop, take, filter, get_or, Contains, Some, slice_get, inl, inr, refl, sym, ap, ◌∙◌, subst, arith}
 use Rattle.std.specs.List.{AllWithin}
 use Rattle.std.specs.List.Sorted.{IsPartitionedBy}
-use Rattle.std.proofs.lemmas.Bool.{cases_Bool, cases_lt, lt-ltb, le-ltb}
+use Rattle.std.proofs.lemmas.Bool.{cases_Bool, lt-ltb, le-ltb}
 use Rattle.std.proofs.lemmas.Int.{ints}
 use Rattle.std.proofs.lemmas.List.{append_assoc, drop_all, drop_more, length-append, length-map, take-append-drop, take_more}
 use Rattle.std.proofs.lemmas.List.Elements.{filter-append}
@@ -17,7 +17,7 @@ use Rattle.palm_explain.specs.declared.rows.Row.{Row}
 use Rattle.palm_base.specs.declared.terms.Pair.{Pair}
 use Rattle.palm_explain.specs.Entries.{pairs_with, row_span, span_pairs, span_values, written}
 use Rattle.palm_explain.specs.declared.spans.Span.{Span}
-use Rattle.palm_explain.specs.Rows.{IsFormedRow, IsNext, StandsAt, is_less, number_in, rest_in, span_in}
+use Rattle.palm_explain.specs.Rows.{IsFormedRow, IsNext, is_less, number_in, rest_in, span_in}
 use Rattle.palm_explain.proofs.Reasons.{get_first, number_less, some_same}
 
 -- ---- tests of all
@@ -30,7 +30,7 @@ pub filter_all : {X : Type 0} (p : X → Bool) (xs : List X) → ((x : X) → Co
 filter_all p [] all = refl
 filter_all p (x ∷ xs) all = ap (λ b. cond b (x ∷ filter p xs) (filter p xs)) (all x (member_here x xs)) ∙ ap (λ l. x ∷ l) (filter_all p xs (λ y m. all y (member_there x xs y m)))
 
-pub filter_shorter : {X : Type 0} (p : X → Bool) (xs : List X) → length (filter p xs) ≤ length xs
+filter_shorter : {X : Type 0} (p : X → Bool) (xs : List X) → length (filter p xs) ≤ length xs
 filter_shorter p [] = omega arith
 filter_shorter p (x ∷ xs) = let rest = filter_shorter p xs in elim (cases_Bool (p x)) [
   | inl t ↦ let e = ap (λ b. length (cond b (x ∷ filter p xs) (filter p xs))) t in omega (arith, e, rest)

@@ -1,4 +1,4 @@
-use Rattle.std.proofs.Common.{◌≡◌, ◌∙◌, ◌-◌, ◌∷◌, List, ℕ, suc, length, slice_get, ap, arith}
+use Rattle.std.proofs.Common.{◌≡◌, ◌∙◌, ◌-◌, suc, length, slice_get, ap, arith}
 use Rattle.palm_explain.specs.Rows.{rest_in}
 use Rattle.palm_explain.proofs.spans.reason_of.Goals as goal
 

@@ -1,4 +1,4 @@
-use Rattle.std.proofs.Common.{◌≡◌, ◌∙◌, length, slice_get, Some, sym, ap, subst, arith}
+use Rattle.std.proofs.Common.{◌≡◌, ◌∙◌, length, slice_get, Some, ap, subst, arith}
 use Rattle.std.proofs.lemmas.Bool.{some_since}
 use Rattle.std.proofs.lemmas.Option.{MatchOption-at_some}
 use Rattle.palm_explain.specs.Entries.{written}
