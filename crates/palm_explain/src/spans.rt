@@ -129,6 +129,7 @@ pub(crate) fn are_countable(rows: &[Row], spans: &[Span]) -> bool
     ensures { result ≡ true → (n : ℕ) → length (written rows.now n spans.now) < 2 ^ 64 }
 {
     if spans.len() == 1 {
+        prove!(lost_by(rows, spans[0].var) <= usize::MAX);
         return true;
     }
     let mut most: usize = 0;
