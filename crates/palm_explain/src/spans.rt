@@ -197,12 +197,7 @@ fn reason_of(rows: &[Row], span: &Span, number: usize, index: usize) -> Result<P
 }
 
 /// The reason at an index among those of the spans, if there are so many.
-pub(crate) fn reason_in(
-    rows: &[Row],
-    spans: &[Span],
-    number: usize,
-    index: usize,
-) -> Option<Pair>
+pub(crate) fn reason_in(rows: &[Row], spans: &[Span], number: usize, index: usize) -> Option<Pair>
     requires { AreFormedRows rows.now }
     ensures { MatchOption result
         (length (written rows.now number spans.now) ≤ index)
