@@ -76,23 +76,29 @@ impl Places {
         ensures stay { (p : ℕ) → HasPlace self.old p → HasPlace self.new p }
         ensures only { (p : ℕ) → HasPlace self.new p → HasPlace self.old p ⊎ IsIn word.now p }
     {
-        let at = index_near(&self.words, self.near, word.start);
+        let guess = guessed(&self.words, self.near, word.start);
+        if starts_at(&self.words, guess, word.start) {
+            self.near = guess;
+            join_bits(&mut self.words, guess, word.bits);
+            return Ok(());
+        }
+        self.add_far_word(word)
+    }
+
+    /// The same of a word that does not begin where it was guessed.
+    #[inline(never)]
+    fn add_far_word(&mut self, word: &PlaceWord) -> Result<(), NoMemory>
+        requires { word.now.start % 64 ≡ 0 }
+        ensures there { OnOk result ((p : ℕ) → IsIn word.now p → HasPlace self.new p) }
+        ensures stay { (p : ℕ) → HasPlace self.old p → HasPlace self.new p }
+        ensures only { (p : ℕ) → HasPlace self.new p → HasPlace self.old p ⊎ IsIn word.now p }
+    {
+        let at = index_by_halves(&self.words, word.start);
         if starts_at(&self.words, at, word.start) {
             self.near = at;
             join_bits(&mut self.words, at, word.bits);
             return Ok(());
         }
-        self.insert_word(at, word)
-    }
-
-    /// Puts a word in at the index where it belongs. Without memory no place is added.
-    #[inline(never)]
-    fn insert_word(&mut self, at: usize, word: &PlaceWord) -> Result<(), NoMemory>
-        requires { IsGapAt self.old word.now.start at }
-        ensures there { OnOk result ((p : ℕ) → IsIn word.now p → HasPlace self.new p) }
-        ensures stay { (p : ℕ) → HasPlace self.old p → HasPlace self.new p }
-        ensures only { (p : ℕ) → HasPlace self.new p → HasPlace self.old p ⊎ IsIn word.now p }
-    {
         let gap = reach(&mut self.words, at, word.start)?;
         self.near = gap;
         self.words.insert(gap, *word)?;
@@ -190,7 +196,6 @@ fn index_near(words: &[PlaceWord], near: usize, start: usize) -> usize
 }
 
 /// How many of the words begin behind this place.
-#[inline(never)]
 fn index_by_halves(words: &[PlaceWord], start: usize) -> usize
     requires { ArePlaceWords words.now }
     ensures { IsPartedAt (λ w. nat_lt start w.start) words.now result }
