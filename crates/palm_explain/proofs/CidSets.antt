@@ -1,7 +1,7 @@
 -- Sets of ids: what one more id, or another set, makes of them, and their ids as a list.
-use Rattle.std.proofs.Common.{◌≡◌, ℕ, ◌+◌, ◌<◌, ◌≤◌, ◌^◌, true, List, [], ◌∷◌, ◌++◌, length, get_or, take, reverse, Contains, Bool, Result, Ok, Err, OnOk, OnErr, is_ok, ◌⊎◌, inl, inr, refl, sym, ap, ◌∙◌, subst, arith}
+use Rattle.std.proofs.Common.{◌≡◌, ℕ, ◌+◌, ◌<◌, ◌≤◌, ◌^◌, true, List, [], ◌∷◌, ◌++◌, length, get_or, take, Contains, Bool, Result, Ok, Err, OnOk, OnErr, is_ok, ◌⊎◌, inl, inr, refl, sym, ap, ◌∙◌, subst, arith}
 use Rattle.std.proofs.lemmas.Bool.{cases_lt, lt-ltb}
-use Rattle.std.proofs.lemmas.List.{reverse-append, take_more}
+use Rattle.std.proofs.lemmas.List.{append-nil, append_assoc, get_or_default, take_more}
 use Rattle.std.proofs.lemmas.List.Elements.{Contains-append_left, Contains-append_right, Contains-append_cases, Contains-push, Contains-push_cases}
 use Rattle.std.specs.Prelude.{MatchResult}
 use Rattle.palm_base.specs.Order.{BelongsAt, Rises, StandsAt, cid_before}
@@ -10,13 +10,17 @@ use Rattle.palm_base.specs.declared.terms.Pair.{Pair}
 use Rattle.palm_base.specs.declared.terms.Cid.{Cid}
 use Rattle.palm_base.specs.declared.terms.Cid.TheVariants.{Decide, Not, User}
 use Rattle.palm_base.proofs.cited.CidOrder.{rises_append}
-use Rattle.palm_base.proofs.cited.Members.{all_members, member_get, member_here, member_nil, member_same, member_single, member_cases, member_there}
+use Rattle.palm_base.proofs.cited.Members.{member_get, member_here, member_nil, member_same, member_single}
 use Rattle.palm_base.proofs.cited.RisingLists.{stands_cid}
 use Rattle.palm_model.specs.Log.{IsListOf}
-use Rattle.palm_explain.specs.CidSets.{AreMembers, CidMembers, IsDecisionIn, IsJoined, IsMember, IsUserIn}
+use Rattle.palm_explain.specs.CidSets.{Adds, AddsSome, AreMembers, CidMembers, HasAppended, IsIdIn, IsIdOf, IsJoined, IsMember, id_of}
+use Rattle.palm_explain.specs.declared.cid_set.Numbered.{Numbered}
+use Rattle.palm_explain.specs.declared.cid_set.Numbered.TheVariants.{Decisions, Users}
 use Rattle.palm_explain.specs.Merging.{IsMerged}
-use Rattle.palm_explain.specs.Places.{HasPlace, IsLastBelow}
+use Rattle.palm_explain.specs.Places.{ArePlaceWords, HasPlace, IsFirstIn, IsIn}
 use Rattle.palm_explain.specs.declared.places.PlaceWord.{PlaceWord}
+use Rattle.palm_explain.proofs.NamedSome.{listed_like}
+use Rattle.palm_explain.proofs.PlaceSets.{word_before}
 
 -- ---- sets put together
 
@@ -42,149 +46,214 @@ joined_next S M T more i t lt at one two = record {
     wider : (c : Cid) → Contains (take i more ++ t ∷ []) c → Contains (take (i + 1) more) c
     wider c m = subst (λ l. Contains l c) (sym longer) m
 
--- ---- one kind of ids, the greatest number first, and then turned round
+-- what was added to none, as a list
+pub joined_listed : (S M T : Cid → Type 0) (cids : List Cid) → ((c : Cid) → S c → ⊥) → IsJoined S M T → IsListOf T cids → IsListOf M cids
+joined_listed S M T cids none joined = listed_like T M cids (λ c t. elim (joined.sound c t) [ inl s ↦ absurd (none c s) | inr m ↦ m ]) joined.second
 
-module _ (id : ℕ → Cid) (before : (m n : ℕ) → m < n → cid_before (id m) (id n) ≡ true) (words : List PlaceWord) where
-  -- those from the end on
-  abbrev pub IsAbove : ℕ → Cid → Type 0
-  IsAbove end c = (n : ℕ) × (c ≡ id n) × HasPlace words n × (end ≤ n)
+-- ---- ids that are numbers, by rising number
 
-  pub above_none : (end : ℕ) (cids : List Cid) → cids ≡ [] → ((n : ℕ) → HasPlace words n → n < end) → IsListOf (IsAbove end) (reverse cids)
-  above_none end cids none small = subst (λ l. IsListOf (IsAbove end) (reverse l)) (sym none) (record {
-    rising = tt;
-    sound = λ c m. absurd (member_nil c m);
-    whole = λ c a. let n = a.0 in let lt = small n a.2 in let le = a.3 in absurd (omega (arith, lt, le));
-  })
+nothing_listed : (P : Cid → Type 0) → ((c : Cid) → P c → ⊥) → IsListOf P []
+nothing_listed P none = record { rising = tt; sound = λ c m. absurd (member_nil c m); whole = λ c p. absurd (none c p) }
 
-  pub above_next : (end n : ℕ) (cids : List Cid) → IsLastBelow words end n → IsListOf (IsAbove end) (reverse cids) → IsListOf (IsAbove n) (reverse (cids ++ id n ∷ []))
-  above_next end n cids last are = subst (IsListOf (IsAbove n)) (sym (reverse-append cids (id n ∷ []))) (record {
-    rising = (
-      all_members (λ d. cid_before (id n) d ≡ true) (reverse cids) (λ d m.
-          let a = are.sound d m in
-          let le = a.3 in
-          let lt = last.below in
-          subst (λ e. cid_before (id n) e ≡ true) (sym a.1) (before n a.0 (omega (arith, le, lt)))),
-      are.rising,
-    );
-    sound = λ c m. elim (member_cases (id n) (reverse cids) c m) [
-      | inl e ↦ (n, sym e, last.has, omega arith)
-      | inr k ↦ let a = are.sound c k in let le = a.3 in let lt = last.below in (a.0, a.1, a.2, omega (arith, le, lt))
-    ];
-    whole = λ c a. elim (cases_lt a.0 end) [
-      | inl l ↦
-          let most = last.last a.0 a.2 l in
-          let le = a.3 in
-          let e : a.0 ≡ n = omega (arith, most, le) in
-          member_same (id n ∷ reverse cids) (id n) c (sym (a.1 ∙ ap id e)) (member_here (id n) (reverse cids))
-      | inr ge ↦ member_there (id n) (reverse cids) c (are.whole c (a.0, a.1, a.2, ge))
-    ];
-  })
+pub id_before : (ids : Numbered) (m n : ℕ) → m < n → cid_before (id_of ids m) (id_of ids n) ≡ true
+id_before Decisions m n l = lt-ltb m n l
+id_before Users m n l = lt-ltb m n l
 
-  pub above_all : (end : ℕ) (cids turned : List Cid) → turned ≡ reverse cids → ((n : ℕ) → HasPlace words n → n < end → ⊥) → IsListOf (IsAbove end) (reverse cids) → IsListOf (λ c. (n : ℕ) × (c ≡ id n) × HasPlace words n) turned
-  above_all end cids turned is none are = subst (IsListOf (λ c. (n : ℕ) × (c ≡ id n) × HasPlace words n)) (sym is) (record {
-    rising = are.rising;
-    sound = λ c m. let a = are.sound c m in (a.0, a.1, a.2);
-    whole = λ c h. are.whole c (h.0, h.1, h.2, elim (cases_lt h.0 end) [ inl l ↦ absurd (none h.0 h.2 l) | inr ge ↦ ge ]);
-  })
+-- those with the one property, and behind them those with the other
+listed_both : (P Q R : Cid → Type 0) (first second : List Cid) → ((c d : Cid) → P c → Q d → cid_before c d ≡ true) → ((c : Cid) → P c → R c) → ((c : Cid) → Q c → R c) → ((c : Cid) → R c → P c ⊎ Q c)
+    → IsListOf P first → IsListOf Q second → IsListOf R (first ++ second)
+listed_both P Q R first second before left right split one two = record {
+  rising = rises_append first second one.rising two.rising (λ c d m n. before c d (one.sound c m) (two.sound d n));
+  sound = λ c m. elim (Contains-append_cases first second c m) [ inl k ↦ left c (one.sound c k) | inr k ↦ right c (two.sound c k) ];
+  whole = λ c r. elim (split c r) [
+    | inl p ↦ Contains-append_left first second c (one.whole c p)
+    | inr q ↦ Contains-append_right first second c (two.whole c q)
+  ];
+}
 
-pub decisions_before : (m n : ℕ) → m < n → cid_before (Decide m) (Decide n) ≡ true
-decisions_before m n l = lt-ltb m n l
+single_listed : (cid : Cid) → IsListOf (λ c. c ≡ cid) (cid ∷ [])
+single_listed cid = record {
+  rising = (λ k d lt. absurd (omega (arith, lt)), tt);
+  sound = λ c m. sym (member_single cid c m);
+  whole = λ c e. member_same (cid ∷ []) cid c (sym e) (member_here cid []);
+}
 
-pub users_before : (m n : ℕ) → m < n → cid_before (User m) (User n) ≡ true
-users_before m n l = lt-ltb m n l
+-- nothing is appended, and more behind what was
+pub appended_none : (P : Cid → Type 0) (cids : List Cid) → ((c : Cid) → P c → ⊥) → HasAppended cids P cids
+appended_none P cids none = record { more = []; behind = sym (append-nil cids); listed = nothing_listed P none }
+
+appended_both : (P Q R : Cid → Type 0) (cids middle all : List Cid) → ((c d : Cid) → P c → Q d → cid_before c d ≡ true) → ((c : Cid) → P c → R c) → ((c : Cid) → Q c → R c) → ((c : Cid) → R c → P c ⊎ Q c)
+    → HasAppended cids P middle → HasAppended middle Q all → HasAppended cids R all
+appended_both P Q R cids middle all before left right split one two = record {
+  more = one.more ++ two.more;
+  behind = two.behind ∙ ap (λ l. l ++ two.more) one.behind ∙ append_assoc cids one.more two.more;
+  listed = listed_both P Q R one.more two.more before left right split one.listed two.listed;
+}
+
+module _ (ids : Numbered) (word : PlaceWord) where
+  -- those below a place
+  abbrev pub IsIdBelow : ℕ → Cid → Type 0
+  IsIdBelow from c = (n : ℕ) × (c ≡ id_of ids n) × IsIn word n × (n < from)
+
+  pub below_none : (cids : List Cid) → HasAppended cids (IsIdBelow 0) cids
+  below_none cids = appended_none (IsIdBelow 0) cids (λ c b. let lt = b.3 in omega (arith, lt))
+
+  pub below_next : (cids middle : List Cid) (from n : ℕ) → IsFirstIn word from n → HasAppended cids (IsIdBelow from) middle → HasAppended cids (IsIdBelow (n + 1)) (middle ++ id_of ids n ∷ [])
+  below_next cids middle from n first are =
+      let behind = first.behind in
+      appended_both (IsIdBelow from) (λ c. c ≡ id_of ids n) (IsIdBelow (n + 1)) cids middle (middle ++ id_of ids n ∷ [])
+      (λ c d b e. let lt = b.3 in subst (λ f. cid_before c f ≡ true) (sym e) (subst (λ f. cid_before f (id_of ids n) ≡ true) (sym b.1) (id_before ids b.0 n (omega (arith, lt, behind)))))
+      (λ c b. let lt = b.3 in (b.0, b.1, b.2, omega (arith, lt, behind)))
+      (λ c e. (n, e, first.is, omega arith))
+      (λ c b. elim (cases_lt b.0 from) [
+        | inl l ↦ inl (b.0, b.1, b.2, l)
+        | inr ge ↦ let least = first.first b.0 b.2 ge in let lt = b.3 in inr (b.1 ∙ ap (id_of ids) (omega (arith, least, lt)))
+      ])
+      are (record { more = id_of ids n ∷ []; behind = refl; listed = single_listed (id_of ids n) })
+
+  pub below_all : (cids all : List Cid) (from : ℕ) → ((n : ℕ) → IsIn word n → from ≤ n → ⊥) → HasAppended cids (IsIdBelow from) all → HasAppended cids (IsIdOf ids word) all
+  below_all cids all from none are = record {
+    more = are.more;
+    behind = are.behind;
+    listed = listed_like (IsIdBelow from) (IsIdOf ids word) are.more (λ c b. (b.0, b.1, b.2)) (λ c b. (b.0, b.1, b.2, elim (cases_lt b.0 from) [ inl l ↦ l | inr ge ↦ absurd (none b.0 b.2 ge) ])) are.listed;
+  }
+
+module _ (ids : Numbered) (words : List PlaceWord) where
+  -- those of the words from an index on
+  abbrev pub IsIdFrom : ℕ → Cid → Type 0
+  IsIdFrom index c = (n : ℕ) × (c ≡ id_of ids n) × (h : HasPlace words n) × (index ≤ h.1.0)
+
+  pub from_none : (cids : List Cid) (index : ℕ) → length words ≤ index → HasAppended cids (IsIdFrom index) cids
+  from_none cids index end = appended_none (IsIdFrom index) cids (λ c b. let lt = b.2.1.1 in let le = b.3 in omega (arith, lt, le, end))
+
+  pub from_next : ArePlaceWords words → (cids middle all : List Cid) (index : ℕ) (word : PlaceWord) → index < length words → word ≡ get_or words index word → HasAppended cids (IsIdFrom (index + 1)) middle → HasAppended middle (IsIdOf ids word) all
+      → HasAppended cids (IsIdFrom index) all
+  from_next formed cids middle all index word lt at =
+      appended_both (IsIdFrom (index + 1)) (IsIdOf ids word) (IsIdFrom index) cids middle all
+      (λ c d b o. subst (λ f. cid_before c f ≡ true) (sym o.1) (subst (λ f. cid_before f (id_of ids o.0) ≡ true) (sym b.1) (id_before ids b.0 o.0 (word_before words formed index word lt at b.0 o.0 b.2 b.3 o.2))))
+      (λ c b. let le = b.3 in (b.0, b.1, b.2, omega (arith, le)))
+      (λ c o. (o.0, o.1, (word, (index, lt, sym at), o.2), omega arith))
+      (λ c b. let h = b.2 in elim (cases_lt index h.1.0) [
+        | inl l ↦ inl (b.0, b.1, h, omega (arith, l))
+        | inr ge ↦
+            let le = b.3 in
+            let e : h.1.0 ≡ index = omega (arith, ge, le) in
+            let same : h.0 ≡ word = sym h.1.2 ∙ ap (λ k. get_or words k h.0) e ∙ get_or_default words index h.0 word lt ∙ sym at in
+            inr (b.0, b.1, subst (λ (w : PlaceWord). IsIn w b.0) same h.2)
+      ])
+
+  pub from_all : (cids all : List Cid) → HasAppended cids (IsIdFrom 0) all → HasAppended cids (IsIdIn ids words) all
+  from_all cids all are = record {
+    more = are.more;
+    behind = are.behind;
+    listed = listed_like (IsIdFrom 0) (IsIdIn ids words) are.more (λ c b. (b.0, b.1, b.2)) (λ c b. (b.0, b.1, b.2, omega arith)) are.listed;
+  }
 
 -- ---- the three kinds
 
 -- the list of all
-pub members_listed : (ids : CidMembers) (decisions users all : List Cid) → AreMembers ids.decisions ids.negations ids.users → IsListOf (IsDecisionIn ids.decisions) decisions → IsListOf (IsUserIn ids.users) users
-    → all ≡ (decisions ++ ids.negations) ++ users → IsListOf (IsMember ids) all
-members_listed ids decisions users all kept one three is = subst (IsListOf (IsMember ids)) (sym is) (record {
-  rising = rises_append (decisions ++ ids.negations) users (rises_append decisions ids.negations one.rising kept.rising first) three.rising second;
+pub members_listed : (ids : CidMembers) (first second all : List Cid) → AreMembers ids.decisions ids.negations ids.users → HasAppended [] (IsIdIn Decisions ids.decisions) first → second ≡ first ++ ids.negations
+    → HasAppended second (IsIdIn Users ids.users) all → IsListOf (IsMember ids) all
+members_listed ids first second all kept one more three = subst (IsListOf (IsMember ids)) (sym (three.behind ∙ ap (λ l. l ++ users) (more ∙ ap (λ l. l ++ ids.negations) one.behind))) (record {
+  rising = rises_append (decisions ++ ids.negations) users (rises_append decisions ids.negations one.listed.rising kept.rising before) three.listed.rising behind;
   sound = λ c m. elim (Contains-append_cases (decisions ++ ids.negations) users c m) [
     | inl k ↦ elim (Contains-append_cases decisions ids.negations c k) [
-      | inl d ↦ let x = one.sound c d in subst (IsMember ids) (sym x.1) x.2
+      | inl d ↦ let x = one.listed.sound c d in subst (IsMember ids) (sym x.1) x.2
       | inr n ↦ let p = kept.negated c n in subst (IsMember ids) (sym p.1) (member_same ids.negations c (Not p.0) p.1 n)
     ]
-    | inr u ↦ let n = three.sound c u in subst (IsMember ids) (sym n.1) n.2
+    | inr u ↦ let n = three.listed.sound c u in subst (IsMember ids) (sym n.1) n.2
   ];
   whole = whole;
 })
   where
-    first : (c d : Cid) → Contains decisions c → Contains ids.negations d → cid_before c d ≡ true
-    first c d m n = let x = one.sound c m in let p = kept.negated d n in subst (λ a. cid_before a d ≡ true) (sym x.1) (subst (λ b. cid_before (Decide x.0) b ≡ true) (sym p.1) refl)
+    decisions : List Cid
+    decisions = one.more
 
-    second : (c d : Cid) → Contains (decisions ++ ids.negations) c → Contains users d → cid_before c d ≡ true
-    second c d m n = let u = three.sound d n in subst (λ b. cid_before c b ≡ true) (sym u.1) (elim (Contains-append_cases decisions ids.negations c m) [
-      | inl k ↦ let x = one.sound c k in subst (λ a. cid_before a (User u.0) ≡ true) (sym x.1) refl
+    users : List Cid
+    users = three.more
+
+    before : (c d : Cid) → Contains decisions c → Contains ids.negations d → cid_before c d ≡ true
+    before c d m n = let x = one.listed.sound c m in let p = kept.negated d n in subst (λ a. cid_before a d ≡ true) (sym x.1) (subst (λ b. cid_before (Decide x.0) b ≡ true) (sym p.1) refl)
+
+    behind : (c d : Cid) → Contains (decisions ++ ids.negations) c → Contains users d → cid_before c d ≡ true
+    behind c d m n = let u = three.listed.sound d n in subst (λ b. cid_before c b ≡ true) (sym u.1) (elim (Contains-append_cases decisions ids.negations c m) [
+      | inl k ↦ let x = one.listed.sound c k in subst (λ a. cid_before a (User u.0) ≡ true) (sym x.1) refl
       | inr k ↦ let p = kept.negated c k in subst (λ a. cid_before a (User u.0) ≡ true) (sym p.1) refl
     ])
 
     whole : (c : Cid) → IsMember ids c → Contains ((decisions ++ ids.negations) ++ users) c
-    whole (Decide x) h = Contains-append_left (decisions ++ ids.negations) users (Decide x) (Contains-append_left decisions ids.negations (Decide x) (one.whole (Decide x) (x, refl, h)))
+    whole (Decide x) h = Contains-append_left (decisions ++ ids.negations) users (Decide x) (Contains-append_left decisions ids.negations (Decide x) (one.listed.whole (Decide x) (x, refl, h)))
     whole (Not p) h = Contains-append_left (decisions ++ ids.negations) users (Not p) (Contains-append_right decisions ids.negations (Not p) h)
-    whole (User n) h = Contains-append_right (decisions ++ ids.negations) users (User n) (three.whole (User n) (n, refl, h))
+    whole (User n) h = Contains-append_right (decisions ++ ids.negations) users (User n) (three.listed.whole (User n) (n, refl, h))
 
--- an id of one kind
-pub added_decision : (ids : CidMembers) (more : List PlaceWord) (x : ℕ) → HasPlace more x → ((n : ℕ) → HasPlace ids.decisions n → HasPlace more n) → ((n : ℕ) → HasPlace more n → HasPlace ids.decisions n ⊎ (x ≡ n))
-    → IsJoined (IsMember ids) (λ c. c ≡ Decide x) (IsMember (record ids { decisions = more }))
-added_decision ids more x there stay only = record { sound = sound; first = first; second = λ c e. subst (IsMember (record ids { decisions = more })) (sym e) there }
+-- ---- one more id, and those of another set
+
+pub some_of : (before : CidMembers) (more : Cid → Type 0) (after : CidMembers) → Adds before more after → AddsSome before more after
+some_of before more after joined = record { sound = joined.sound; first = joined.first }
+
+pub some_none : (ids : CidMembers) (more : Cid → Type 0) → AddsSome ids more ids
+some_none ids more = record { sound = λ c m. inl m; first = λ c m. m }
+
+-- some of the first ones and then some of the last ones
+pub some_both : (before middle after : CidMembers) (first last more : Cid → Type 0) → ((c : Cid) → first c → more c) → ((c : Cid) → last c → more c) → AddsSome before first middle → AddsSome middle last after → AddsSome before more after
+some_both before middle after first last more left right one two = record {
+  sound = λ c m. elim (two.sound c m) [
+    | inl k ↦ elim (one.sound c k) [ inl b ↦ inl b | inr f ↦ inr (left c f) ]
+    | inr l ↦ inr (right c l)
+  ];
+  first = λ c m. two.first c (one.first c m);
+}
+
+-- some of each kind
+some_each : (ids more : CidMembers) (asked : Cid → Type 0) → ((x : ℕ) → HasPlace ids.decisions x → HasPlace more.decisions x) → ((x : ℕ) → HasPlace more.decisions x → HasPlace ids.decisions x ⊎ asked (Decide x))
+    → ((p : Pair) → Contains ids.negations (Not p) → Contains more.negations (Not p)) → ((p : Pair) → Contains more.negations (Not p) → Contains ids.negations (Not p) ⊎ asked (Not p))
+    → ((n : ℕ) → HasPlace ids.users n → HasPlace more.users n) → ((n : ℕ) → HasPlace more.users n → HasPlace ids.users n ⊎ asked (User n)) → AddsSome ids asked more
+some_each ids more asked decide decide_only negate negate_only user user_only = record { sound = sound; first = first }
   where
-    sound : (c : Cid) → IsMember (record ids { decisions = more }) c → IsMember ids c ⊎ (c ≡ Decide x)
-    sound (Decide y) h = elim (only y h) [ inl o ↦ inl o | inr e ↦ inr (ap Decide (sym e)) ]
-    sound (Not p) h = inl h
-    sound (User n) h = inl h
-
-    first : (c : Cid) → IsMember ids c → IsMember (record ids { decisions = more }) c
-    first (Decide y) h = stay y h
-    first (Not p) h = h
-    first (User n) h = h
-
-pub added_negation : (ids : CidMembers) (more : List Cid) (p : Pair) → IsMerged ids.negations (Not p ∷ []) more → IsJoined (IsMember ids) (λ c. c ≡ Not p) (IsMember (record ids { negations = more }))
-added_negation ids more p merged = record { sound = sound; first = first; second = λ c e. subst (IsMember (record ids { negations = more })) (sym e) (merged.second (Not p) (member_here (Not p) [])) }
-  where
-    sound : (c : Cid) → IsMember (record ids { negations = more }) c → IsMember ids c ⊎ (c ≡ Not p)
-    sound (Decide y) h = inl h
-    sound (Not q) h = elim (merged.sound (Not q) h) [ inl o ↦ inl o | inr e ↦ inr (sym (member_single (Not p) (Not q) e)) ]
-    sound (User n) h = inl h
-
-    first : (c : Cid) → IsMember ids c → IsMember (record ids { negations = more }) c
-    first (Decide y) h = h
-    first (Not q) h = merged.first (Not q) h
-    first (User n) h = h
-
-pub added_user : (ids : CidMembers) (more : List PlaceWord) (n : ℕ) → HasPlace more n → ((m : ℕ) → HasPlace ids.users m → HasPlace more m) → ((m : ℕ) → HasPlace more m → HasPlace ids.users m ⊎ (n ≡ m))
-    → IsJoined (IsMember ids) (λ c. c ≡ User n) (IsMember (record ids { users = more }))
-added_user ids more n there stay only = record { sound = sound; first = first; second = λ c e. subst (IsMember (record ids { users = more })) (sym e) there }
-  where
-    sound : (c : Cid) → IsMember (record ids { users = more }) c → IsMember ids c ⊎ (c ≡ User n)
-    sound (Decide y) h = inl h
-    sound (Not p) h = inl h
-    sound (User m) h = elim (only m h) [ inl o ↦ inl o | inr e ↦ inr (ap User (sym e)) ]
-
-    first : (c : Cid) → IsMember ids c → IsMember (record ids { users = more }) c
-    first (Decide y) h = h
-    first (Not p) h = h
-    first (User m) h = stay m h
-
--- the ids of another set
-pub added_all : (ids other : CidMembers) (decisions : List PlaceWord) (negations : List Cid) (users : List PlaceWord)
-    → ((n : ℕ) → HasPlace other.decisions n → HasPlace decisions n) → ((n : ℕ) → HasPlace ids.decisions n → HasPlace decisions n) → ((n : ℕ) → HasPlace decisions n → HasPlace ids.decisions n ⊎ HasPlace other.decisions n)
-    → IsMerged ids.negations other.negations negations
-    → ((n : ℕ) → HasPlace other.users n → HasPlace users n) → ((n : ℕ) → HasPlace ids.users n → HasPlace users n) → ((n : ℕ) → HasPlace users n → HasPlace ids.users n ⊎ HasPlace other.users n)
-    → IsJoined (IsMember ids) (IsMember other) (IsMember (record { decisions = decisions; negations = negations; users = users }))
-added_all ids other decisions negations users there stay only merged user_there user_stay user_only = record { sound = sound; first = first; second = second }
-  where
-    sound : (c : Cid) → IsMember (record { decisions = decisions; negations = negations; users = users }) c → IsMember ids c ⊎ IsMember other c
-    sound (Decide x) h = only x h
-    sound (Not p) h = merged.sound (Not p) h
+    sound : (c : Cid) → IsMember more c → IsMember ids c ⊎ asked c
+    sound (Decide x) h = decide_only x h
+    sound (Not p) h = negate_only p h
     sound (User n) h = user_only n h
 
-    first : (c : Cid) → IsMember ids c → IsMember (record { decisions = decisions; negations = negations; users = users }) c
-    first (Decide x) h = stay x h
-    first (Not p) h = merged.first (Not p) h
-    first (User n) h = user_stay n h
+    first : (c : Cid) → IsMember ids c → IsMember more c
+    first (Decide x) h = decide x h
+    first (Not p) h = negate p h
+    first (User n) h = user n h
 
-    second : (c : Cid) → IsMember other c → IsMember (record { decisions = decisions; negations = negations; users = users }) c
+pub some_decision : (ids : CidMembers) (more : List PlaceWord) (x : ℕ) → ((n : ℕ) → HasPlace ids.decisions n → HasPlace more n) → ((n : ℕ) → HasPlace more n → HasPlace ids.decisions n ⊎ (x ≡ n)) → AddsSome ids (λ c. c ≡ Decide x) (record ids { decisions = more })
+some_decision ids more x stay only =
+    some_each ids (record ids { decisions = more }) (λ c. c ≡ Decide x) stay (λ n h. elim (only n h) [ inl o ↦ inl o | inr e ↦ inr (ap Decide (sym e)) ])
+    (λ p h. h) (λ p h. inl h) (λ n h. h) (λ n h. inl h)
+
+pub added_decision : (ids : CidMembers) (more : List PlaceWord) (x : ℕ) → HasPlace more x → AddsSome ids (λ c. c ≡ Decide x) (record ids { decisions = more }) → Adds ids (λ c. c ≡ Decide x) (record ids { decisions = more })
+added_decision ids more x there some = record { sound = some.sound; first = some.first; second = λ c e. subst (IsMember (record ids { decisions = more })) (sym e) there }
+
+pub some_user : (ids : CidMembers) (more : List PlaceWord) (n : ℕ) → ((m : ℕ) → HasPlace ids.users m → HasPlace more m) → ((m : ℕ) → HasPlace more m → HasPlace ids.users m ⊎ (n ≡ m)) → AddsSome ids (λ c. c ≡ User n) (record ids { users = more })
+some_user ids more n stay only =
+    some_each ids (record ids { users = more }) (λ c. c ≡ User n) (λ x h. h) (λ x h. inl h) (λ p h. h) (λ p h. inl h)
+    stay (λ m h. elim (only m h) [ inl o ↦ inl o | inr e ↦ inr (ap User (sym e)) ])
+
+pub added_user : (ids : CidMembers) (more : List PlaceWord) (n : ℕ) → HasPlace more n → AddsSome ids (λ c. c ≡ User n) (record ids { users = more }) → Adds ids (λ c. c ≡ User n) (record ids { users = more })
+added_user ids more n there some = record { sound = some.sound; first = some.first; second = λ c e. subst (IsMember (record ids { users = more })) (sym e) there }
+
+pub added_negation : (ids : CidMembers) (more : List Cid) (p : Pair) → IsMerged ids.negations (Not p ∷ []) more → Adds ids (λ c. c ≡ Not p) (record ids { negations = more })
+added_negation ids more p merged =
+    let some = some_each ids (record ids { negations = more }) (λ c. c ≡ Not p) (λ x h. h) (λ x h. inl h)
+    (λ q h. merged.first (Not q) h) (λ q h. elim (merged.sound (Not q) h) [ inl o ↦ inl o | inr e ↦ inr (sym (member_single (Not p) (Not q) e)) ])
+    (λ n h. h) (λ n h. inl h) in
+    record { sound = some.sound; first = some.first; second = λ c e. subst (IsMember (record ids { negations = more })) (sym e) (merged.second (Not p) (member_here (Not p) [])) }
+
+-- the ids of another set
+pub some_all : (ids other more : CidMembers) → ((n : ℕ) → HasPlace ids.decisions n → HasPlace more.decisions n) → ((n : ℕ) → HasPlace more.decisions n → HasPlace ids.decisions n ⊎ HasPlace other.decisions n)
+    → ((c : Cid) → Contains ids.negations c → Contains more.negations c) → ((c : Cid) → Contains more.negations c → Contains ids.negations c ⊎ Contains other.negations c)
+    → ((n : ℕ) → HasPlace ids.users n → HasPlace more.users n) → ((n : ℕ) → HasPlace more.users n → HasPlace ids.users n ⊎ HasPlace other.users n) → AddsSome ids (IsMember other) more
+some_all ids other more stay only negate negate_only user user_only = some_each ids more (IsMember other) stay only (λ p h. negate (Not p) h) (λ p h. negate_only (Not p) h) user user_only
+
+pub added_all : (ids other more : CidMembers) → ((n : ℕ) → HasPlace other.decisions n → HasPlace more.decisions n) → IsMerged ids.negations other.negations more.negations → ((n : ℕ) → HasPlace other.users n → HasPlace more.users n)
+    → AddsSome ids (IsMember other) more → Adds ids (IsMember other) more
+added_all ids other more there merged user_there some = record { sound = some.sound; first = some.first; second = second }
+  where
+    second : (c : Cid) → IsMember other c → IsMember more c
     second (Decide x) h = there x h
     second (Not p) h = merged.second (Not p) h
     second (User n) h = user_there n h

@@ -18,11 +18,12 @@ use Rattle.palm_explain.specs.declared.rows.TheConstants.{NO_NUMBER}
 use Rattle.palm_explain.specs.declared.spans.Span.{Span}
 use Rattle.palm_explain.specs.Entries.{AreEntered, log_of, pairs_with, removal_of, row_span, span_pairs, written}
 use Rattle.palm_explain.specs.Explanations.{NamesOfSome}
-use Rattle.palm_explain.specs.Needed.{AreMakers, AreNeeded, Climbs, Falls, HasNoted, IsNeeded, IsNeededAt, IsWalked}
+use Rattle.palm_explain.specs.Needed.{AreNeeded, Climbs, Falls, HasNoted, IsNeeded, IsNeededAt, IsWalked}
 use Rattle.palm_explain.specs.Needed.IsNeeded.{is_claimed, is_reason}
-use Rattle.palm_explain.specs.CidSets.{IsJoined}
+use Rattle.palm_explain.specs.CidSets.{AddsSome, CidMembers, IsJoined, IsMember}
 use Rattle.palm_explain.specs.Places.{HasPlace, IsLastBelow}
 use Rattle.palm_explain.specs.Rows.{HasNumber, number_at, number_in, rest_in, row_number, span_in}
+use Rattle.palm_explain.proofs.CidSets.{some_both, some_of}
 use Rattle.palm_explain.proofs.NamedSome.{listed_like}
 use Rattle.palm_explain.proofs.Reasons.{entry_once, entry_places, entry_rises, map_place, parted_entry, place_unmap, some_same, span_value, written_number}
 
@@ -136,6 +137,19 @@ module _ (entries : List Entry) (rows : List Row) (next : ℕ) (are : AreEntered
       let e = walked.sound number has in
       (e.0, parted_entry entries are.rises place e.0 e.1 (subst (λ n. IsPartedAt (λ f. nat_lt f.number n) entries place) (sym e.2) at), e.2)
 
+  -- an entry whose number is noted is needed
+  pub walk_needs : (pairs : List Pair) (noted : List PlaceWord) (end number : ℕ) (visited : List ℕ) → IsWalked entries rows pairs noted end visited → HasPlace noted number → (e : Entry) → Contains entries e → e.number ≡ number
+      → IsNeeded (log_of rows entries) pairs e.pair
+  walk_needs pairs noted end number visited walked has e among is =
+      let f = walked.sound number has in
+      subst (λ (g : Entry). IsNeeded (log_of rows entries) pairs g.pair) (entry_once entries are.rises f.0 e f.1 among (f.2 ∙ sym is)) f.3
+
+  -- what is visited is needed
+  pub walk_needed : (pairs : List Pair) (noted : List PlaceWord) (end : ℕ) (visited : List ℕ) → IsWalked entries rows pairs noted end visited → (place : ℕ) → Contains visited place → IsNeededAt (log_of rows entries) pairs place
+  walk_needed pairs noted end visited walked place m =
+      let h = (walked.listed place).0 m in
+      (removal_of rows h.0, map_place (removal_of rows) entries place h.0 h.1, walk_needs pairs noted end h.0.number visited walked h.2 h.0 (member_get entries place h.0 h.1) refl)
+
   -- past one more removal
   module _ (pairs : List Pair) (noted more : List PlaceWord) (end number place : ℕ) (e : Entry) (visited : List ℕ) (walked : IsWalked entries rows pairs noted end visited) (last : IsLastBelow noted end number)
       (here : slice_get entries place ≡ Some e) (is : e.number ≡ number) (new : HasNoted rows noted more (written rows e.number e.spans.items)) where
@@ -143,9 +157,7 @@ module _ (entries : List Entry) (rows : List Row) (next : ℕ) (are : AreEntered
     among = member_get entries place e here
 
     needed : IsNeeded (log_of rows entries) pairs e.pair
-    needed =
-        let f = walked.sound number last.has in
-        subst (λ (g : Entry). IsNeeded (log_of rows entries) pairs g.pair) (entry_once entries are.rises f.0 e f.1 among (f.2 ∙ sym is)) f.3
+    needed = walk_needs pairs noted end number visited walked last.has e among is
 
     -- what is noted anew is less
     first : (k : ℕ) → HasPlace more k → HasPlace noted k ⊎ (k < number)
@@ -237,11 +249,7 @@ module _ (entries : List Entry) (rows : List Row) (next : ℕ) (are : AreEntered
 
     pub walk_ended : (place : ℕ) → Contains visited place ↔ IsNeededAt (log_of rows entries) pairs place
     walk_ended place = (
-      λ m.
-          let h = (walked.listed place).0 m in
-          let f = walked.sound h.0.number h.2 in
-          let same = entry_once entries are.rises f.0 h.0 f.1 (member_get entries place h.0 h.1) f.2 in
-          (removal_of rows h.0, map_place (removal_of rows) entries place h.0 h.1, subst (λ (g : Entry). IsNeeded (log_of rows entries) pairs g.pair) same f.3),
+      λ m. walk_needed pairs noted end visited walked place m,
       λ n.
           let e = place_unmap (removal_of rows) entries place n.0 n.1 in
           let has = needed_noted n.0.pair n.2 e.0 (member_get entries place e.0 e.1) (ap (λ (z : Removal). z.pair) e.2) in
@@ -292,42 +300,66 @@ module _ (log : List Removal) (x : ℕ) (values : List ℤ) where
       let claimed = member_map (λ (w : ℤ). let q : Pair = record { var = x; value = w } in q) values some.value some.among in
       named_needed cid n.removal n.names n.logged (is_claimed n.removal.pair (member_same (pairs_with x values) (record { var = x; value = some.value }) n.removal.pair (sym n.is) claimed))
 
+-- the constraint made one of the removals at these places
+abbrev pub IsMakerAt : List Removal → List ℕ → Cid → Type 0
+IsMakerAt log places cid = (place : ℕ) × (r : Removal) × Contains places place × (slice_get log place ≡ Some r) × (r.by ≡ cid)
+
+pub makers_none : (log : List Removal) (old : Cid → Type 0) → IsJoined old (IsMakerAt log []) old
+makers_none log old = record { sound = λ c m. inl m; first = λ c m. m; second = λ c k. absurd (member_nil k.0 k.2) }
+
 -- one more of the removals is looked at
-pub makers_more : (log : List Removal) (places : List ℕ) (place : ℕ) (r : Removal) (ids more : Cid → Type 0) → slice_get log place ≡ Some r → AreMakers log places ids → IsJoined ids (λ c. c ≡ r.by) more → AreMakers log (places ++ place ∷ []) more
-makers_more log places place r ids more there are joined = record {
+pub makers_more : (log : List Removal) (places : List ℕ) (place : ℕ) (r : Removal) (old ids more : Cid → Type 0) → slice_get log place ≡ Some r → IsJoined old (IsMakerAt log places) ids → IsJoined ids (λ c. c ≡ r.by) more
+    → IsJoined old (IsMakerAt log (places ++ place ∷ [])) more
+makers_more log places place r old ids more there are joined = record {
   sound = λ c m. elim (joined.sound c m) [
-    | inl o ↦ let s = are.sound c o in (s.0, s.1, Contains-append_left places (place ∷ []) s.0 s.2, s.3, s.4)
-    | inr e ↦ (place, r, Contains-push places place, there, sym e)
+    | inl o ↦ elim (are.sound c o) [ inl was ↦ inl was | inr k ↦ inr (k.0, k.1, Contains-append_left places (place ∷ []) k.0 k.2, k.3, k.4) ]
+    | inr e ↦ inr (place, r, Contains-push places place, there, sym e)
   ];
-  whole = λ q s m here. elim (Contains-push_cases places place q m) [
-    | inl o ↦ joined.first s.by (are.whole q s o here)
-    | inr e ↦
-        let same : r ≡ s = some_same r s (sym there ∙ ap (λ k. slice_get log k) e ∙ here) in joined.second s.by (sym (ap (λ (z : Removal). z.by) same))
+  first = λ c m. joined.first c (are.first c m);
+  second = λ c k. elim (Contains-push_cases places place k.0 k.2) [
+    | inl o ↦ joined.first c (are.second c (k.0, k.1, o, k.3, k.4))
+    | inr e ↦ let same : r ≡ k.1 = some_same r k.1 (sym there ∙ ap (λ j. slice_get log j) e ∙ k.3) in joined.second c (sym (ap (λ (z : Removal). z.by) same ∙ k.4))
   ];
 }
 
 -- the walk has come down to the end, with the constraints of what it passed
-pub record IsWalkedBy (entries : List Entry) (rows : List Row) (pairs : List Pair) (noted : List PlaceWord) (end : ℕ) (ids : Cid → Type 0) : Type 0 where
+pub record IsWalkedBy (entries : List Entry) (rows : List Row) (pairs : List Pair) (noted : List PlaceWord) (end : ℕ) (old ids : Cid → Type 0) : Type 0 where
   pub visited : List ℕ
   pub walked : IsWalked entries rows pairs noted end visited
-  pub made : AreMakers (log_of rows entries) visited ids
+  pub made : IsJoined old (IsMakerAt (log_of rows entries) visited) ids
 
-pub makers_none : (log : List Removal) (ids : Cid → Type 0) → ((c : Cid) → ids c → ⊥) → AreMakers log [] ids
-makers_none log ids none = record { sound = λ c m. absurd (none c m); whole = λ p r m here. absurd (member_nil p m) }
+-- who made what the values need is in their explanations
+pub maker_explains : (log : List Removal) (x : ℕ) (values : List ℤ) (places : List ℕ) → ((place : ℕ) → Contains places place → IsNeededAt log (pairs_with x values) place) → (c : Cid) → IsMakerAt log places c → NamesOfSome log x values c
+maker_explains log x values places each c k =
+    let needed = each k.0 k.2 in
+    let same : needed.0 ≡ k.1 = some_same needed.0 k.1 (sym needed.1 ∙ k.3) in
+    subst (NamesOfSome log x values) k.4 (by_explains log x values k.1 (member_get log k.0 k.1 k.3) (subst (λ (z : Removal). IsNeeded log (pairs_with x values) z.pair) same needed.2))
 
--- the makers of what the values need are the constraints of their explanations
-pub makers_explain : (log : List Removal) (x : ℕ) (values : List ℤ) (places : List ℕ) (ids : Cid → Type 0) (cids : List Cid) → ((place : ℕ) → Contains places place ↔ IsNeededAt log (pairs_with x values) place) → AreMakers log places ids
-    → IsListOf ids cids → IsListOf (NamesOfSome log x values) cids
-makers_explain log x values places ids cids each are = listed_like ids (NamesOfSome log x values) cids
-    (λ c m.
-    let s = are.sound c m in
-    let needed = (each s.0).0 s.2 in
-    let same : needed.0 ≡ s.1 = some_same needed.0 s.1 (sym needed.1 ∙ s.3) in
-    subst (NamesOfSome log x values) s.4 (by_explains log x values s.1 (member_get log s.0 s.1 s.3) (subst (λ (z : Removal). IsNeeded log (pairs_with x values) z.pair) same needed.2)))
-    (λ c some.
-    let t = explains_by log x values c some in
-    let p = member_place log t.0 t.1 in
-    subst ids t.3 (are.whole p.0 t.0 ((each p.0).1 (t.0, p.1, t.2)) p.1))
+-- and at the end that is all of them
+pub makers_explain : (log : List Removal) (x : ℕ) (values : List ℤ) (places : List ℕ) (old ids : Cid → Type 0) → ((place : ℕ) → Contains places place ↔ IsNeededAt log (pairs_with x values) place) → IsJoined old (IsMakerAt log places) ids
+    → IsJoined old (NamesOfSome log x values) ids
+makers_explain log x values places old ids each are = record {
+  sound = λ c m. elim (are.sound c m) [ inl o ↦ inl o | inr k ↦ inr (maker_explains log x values places (λ place. (each place).0) c k) ];
+  first = are.first;
+  second = λ c some.
+      let t = explains_by log x values c some in
+      let p = member_place log t.0 t.1 in
+      are.second c (p.0, t.0, (each p.0).1 (t.0, p.1, t.2), p.1, t.3);
+}
+
+-- what the walk has added with one more constraint, and without memory perhaps not that
+module _ (entries : List Entry) (rows : List Row) (next : ℕ) (are : AreEntered entries rows next) (x : ℕ) (values : List ℤ) where
+  pub walk_adds : (noted : List PlaceWord) (end number place : ℕ) (visited : List ℕ) (e : Entry) → IsWalked entries rows (pairs_with x values) noted end visited → HasPlace noted number → IsPartedAt (λ f. nat_lt f.number number) entries place → slice_get entries place ≡ Some e
+      → (old ids more : CidMembers) → IsJoined (IsMember old) (IsMakerAt (log_of rows entries) visited) (IsMember ids) → AddsSome ids (λ c. c ≡ e.by) more → AddsSome old (NamesOfSome (log_of rows entries) x values) more
+  walk_adds noted end number place visited e walked has at here old ids more made some =
+      let log = log_of rows entries in
+      let pairs = pairs_with x values in
+      let f = walk_here entries rows next are pairs noted end number place visited walked has at in
+      let is : e.number ≡ number = ap (λ (g : Entry). g.number) (some_same e f.0 (sym here ∙ f.1)) ∙ f.2 in
+      let among = member_get entries place e here in
+      let explained = by_explains log x values (removal_of rows e) (member_map (removal_of rows) entries e among) (walk_needs entries rows next are pairs noted end number visited walked has e among is) in
+      some_both old ids more (IsMakerAt log visited) (λ c. c ≡ e.by) (NamesOfSome log x values)
+      (maker_explains log x values visited (walk_needed entries rows next are pairs noted end visited walked)) (λ c is. subst (NamesOfSome log x values) (sym is) explained) (some_of old (IsMakerAt log visited) ids made) some
 
 -- one value of a variable is a pair
 pub one_value : (log : List Removal) (p : Pair) (cids : List Cid) → IsListOf (NamesOfSome log p.var (p.value ∷ [])) cids → IsListOf (NamesOfPair log p) cids

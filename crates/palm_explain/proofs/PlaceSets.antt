@@ -1,5 +1,5 @@
 -- Sets of places by words of 64: bits of a word, and what a new place and a search for the last one make of the words.
-use Rattle.std.proofs.Common.{◌≡◌, ℕ, suc, [], ◌∷◌, ◌++◌, take, ◌+◌, ◌-◌, ◌*◌, ◌/◌, ◌%◌, ◌^◌, ◌<◌, ◌≤◌, List, length, get_or, set, insert, Contains, bit_or, nat_lt, nat_le, Bool, false, ◌⊎◌, ◌↔◌, inl, inr, refl, sym, ap, ◌∙◌, subst, arith, length-set, get_or-set_same, get_or-set_other, pow_pos, div-lt_iff_lt-mul, le-div_iff_mul-le}
+use Rattle.std.proofs.Common.{◌≡◌, ℕ, suc, [], ◌∷◌, ◌++◌, take, ◌+◌, ◌-◌, ◌*◌, ◌/◌, ◌%◌, ◌^◌, ◌<◌, ◌≤◌, List, length, get_or, set, insert, Contains, bit_or, nat_lt, nat_le, Bool, false, ◌⊎◌, ◌↔◌, inl, inr, refl, sym, ap, ◌∙◌, subst, arith, length-set, shr-shr, get_or-set_same, get_or-set_other, pow_pos, div-lt_iff_lt-mul, le-div_iff_mul-le}
 use Rattle.std.specs.Int.{bit_at}
 use Rattle.std.specs.List.Sorted.{IsPartitionedBy}
 use Rattle.std.proofs.Math.Nat.{two-pow-succ}
@@ -13,7 +13,7 @@ use Rattle.palm_base.specs.Tells.{Tells}
 use Rattle.palm_base.proofs.cited.Members.{member_nil, member_take}
 use Rattle.palm_base.proofs.cited.Telling.{tells_both, tells_false, tells_same}
 use Rattle.palm_explain.specs.declared.places.PlaceWord.{PlaceWord}
-use Rattle.palm_explain.specs.Places.{AllBegin, ArePlaceWords, BeginsBelow, HasPlace, IsGapAt, IsIn, IsLastBelow, IsLastIn, IsMissing, IsSearched, with_bits}
+use Rattle.palm_explain.specs.Places.{AllBegin, ArePlaceWords, BeginsBelow, HasPlace, IsFirstIn, IsFirstOne, IsGapAt, IsIn, IsLastBelow, IsLastIn, IsMissing, IsSearched, with_bits}
 
 -- ---- the bits of a word
 
@@ -63,6 +63,32 @@ module _ (w : PlaceWord) (end low : ℕ) (aligned : w.start % 64 ≡ 0) (start :
         last = λ p is lt. elim (cases_lt top (p % 64)) [
           | inl l ↦ let one = in_low p is lt in let zero = t.1 (p % 64) l in absurd (omega (arith, one, zero))
           | inr le ↦ omega (arith, le, is.starts)
+        ];
+      }
+
+-- ---- the first one of a word from a place on
+
+pub bit_at_shr : (n i k : ℕ) → bit_at (n / 2 ^ i) k ≡ bit_at n (i + k)
+bit_at_shr n i k = ap (λ x. x % 2) (shr-shr n i k)
+
+module _ (w : PlaceWord) (from before : ℕ) (aligned : w.start % 64 ≡ 0) (is_before : before ≡ from - w.start) where
+  pub none_far : 64 ≤ before → (p : ℕ) → IsIn w p → from ≤ p → ⊥
+  none_far far p is le = omega (arith, is.starts, is_before, far, le)
+
+  pub none_behind : ((k : ℕ) → before ≤ k → bit_at w.bits k ≡ 0) → (p : ℕ) → IsIn w p → from ≤ p → ⊥
+  none_behind none p is le = let zero = none (p % 64) (omega (arith, is.starts, is_before, le)) in let one = is.one in omega (arith, zero, one)
+
+  pub first_behind : (bit : ℕ) → IsFirstOne w.bits before bit → IsFirstIn w from (w.start + bit)
+  first_behind bit first =
+      let small = first.small in
+      let from_before = first.behind in
+      let at : (w.start + bit) % 64 ≡ bit = omega (arith, aligned, small) in
+      record {
+        is = record { starts = omega (arith, at); one = ap (bit_at w.bits) at ∙ first.is };
+        behind = omega (arith, is_before, from_before);
+        first = λ p is le. elim (cases_lt (p % 64) bit) [
+          | inl l ↦ let zero = first.zeros (p % 64) (omega (arith, is.starts, is_before, le)) l in let one = is.one in absurd (omega (arith, zero, one))
+          | inr ge ↦ omega (arith, ge, is.starts)
         ];
       }
 
@@ -468,3 +494,18 @@ module _ (words : List PlaceWord) (formed : ArePlaceWords words) (end : ℕ) whe
       ]
     ];
   }
+
+-- ---- the words from the last one on
+
+-- a place of a later word stands before one of this word
+pub word_before : (words : List PlaceWord) → ArePlaceWords words → (index : ℕ) (word : PlaceWord) → index < length words → word ≡ get_or words index word → (m n : ℕ) (h : HasPlace words m) → index + 1 ≤ h.1.0 → IsIn word n → m < n
+word_before words formed index word lt at m n h behind is =
+    let k = h.1.0 in
+    let falls = formed.falls index k word (omega (arith, behind)) h.1.1 in
+    let one = ap (λ (u : PlaceWord). u.start) (get_or_default words k word h.0 h.1.1 ∙ h.1.2) in
+    let two = ap (λ (u : PlaceWord). u.start) at in
+    let mine = formed.aligned index word lt in
+    let other = formed.aligned k word h.1.1 in
+    let here = is.starts in
+    let there = h.2.starts in
+    omega (arith, falls, one, two, mine, other, here, there)

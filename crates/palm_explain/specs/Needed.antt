@@ -1,7 +1,6 @@
 -- Which removals the removals of pairs rest on, and how a walk finds their places.
 use Rattle.std.specs.Prelude.{◌≡◌, ◌⊎◌, ◌↔◌, ℕ, ℤ, ◌<◌, ◌≤◌, ◌<ℤ◌, ◌≤ℤ◌, List, Contains, Some, slice_get}
 use Rattle.std.specs.List.{AllPairs}
-use Rattle.palm_base.specs.declared.terms.Cid.{Cid}
 use Rattle.palm_base.specs.declared.terms.Pair.{Pair}
 use Rattle.palm_model.specs.Log.{Removal}
 use Rattle.palm_explain.specs.declared.places.PlaceWord.{PlaceWord}
@@ -35,11 +34,6 @@ Climbs places = AllPairs (λ a b. a < b) places
 pub record AreNeeded (log : List Removal) (pairs : List Pair) (places : List ℕ) : Type 0 where
   pub climbs : Climbs places
   pub each : (place : ℕ) → Contains places place ↔ IsNeededAt log pairs place
-
--- the ids are exactly those of the constraints that made the removals at these places
-pub record AreMakers (log : List Removal) (places : List ℕ) (ids : Cid → Type 0) : Type 0 where
-  pub sound : (c : Cid) → ids c → (place : ℕ) × (r : Removal) × Contains places place × (slice_get log place ≡ Some r) × (r.by ≡ c)
-  pub whole : (place : ℕ) (r : Removal) → Contains places place → slice_get log place ≡ Some r → ids r.by
 
 -- ---- the walk
 

@@ -28,6 +28,19 @@ pub record IsLastIn (word : PlaceWord) (end place : ℕ) : Type 0 where
   pub below : place < end
   pub last : (p : ℕ) → IsIn word p → p < end → p ≤ place
 
+-- the first of the ones of the word from a bit on
+pub record IsFirstOne (bits from one : ℕ) : Type 0 where
+  pub small : one < 64
+  pub behind : from ≤ one
+  pub is : bit_at bits one ≡ 1
+  pub zeros : (k : ℕ) → from ≤ k → k < one → bit_at bits k ≡ 0
+
+-- the first of the places of the word from a place on
+pub record IsFirstIn (word : PlaceWord) (from place : ℕ) : Type 0 where
+  pub is : IsIn word place
+  pub behind : from ≤ place
+  pub first : (p : ℕ) → IsIn word p → from ≤ p → place ≤ p
+
 -- the last of the places below the end
 pub record IsLastBelow (words : List PlaceWord) (end place : ℕ) : Type 0 where
   pub has : HasPlace words place

@@ -1,15 +1,15 @@
 //! Sets of ids: a bit for each decision and each user, in words of 64, and the negations by rising id. A set is gathered in any order,
 //! and another set is added to it a word at a time; a list of it is made once.
-ghost use Rattle.std.specs.Prelude.{◌≡◌, ◌⊎◌, ◌^◌, ◌<◌, ℕ, [], ◌∷◌, Contains, IfOk, OnErr, OnOk};
+ghost use Rattle.std.specs.Prelude.{◌≡◌, ◌⊎◌, ◌%◌, ◌^◌, ◌<◌, ℕ, [], ◌∷◌, Contains, IfOk, OnErr, OnOk};
 ghost use Rattle.palm_base.specs.Order.{Rises};
 ghost use Rattle.palm_base.specs.Tells.{Tells};
 ghost use Rattle.palm_base.specs.declared.terms.Cid.{Cid as CidTerm};
 ghost use Rattle.palm_model.specs.Log.{IsListOf};
-ghost use Rattle.palm_explain.specs.CidSets.{Adds, IsDecisionIn, IsMember, IsUserIn};
+ghost use Rattle.palm_explain.specs.CidSets.{Adds, AddsSome, HasAppended, IsIdIn, IsIdOf, IsMember, id_of};
 ghost use Rattle.palm_explain.specs.Merging.{IsMerged};
-ghost use Rattle.palm_explain.specs.Places.{HasPlace};
+ghost use Rattle.palm_explain.specs.Places.{HasPlace, IsIn};
 
-use crate::places::Places;
+use crate::places::{PlaceWord, Places, first_in};
 use palm_base::{Cid, NoMemory, Var, place_for};
 use std::alloc::{AllocFailed, Global};
 use std::marker::Model;
@@ -35,6 +35,28 @@ impl Model for CidSet {
     ghost invariant = { λ s. AreMembers s.decisions s.negations.items s.users };
 }
 
+/// The ids that are numbers.
+#[derive(Clone, Copy, Debug)]
+enum Numbered {
+    /// Decisions, by their variables.
+    Decisions,
+    /// Users, by their numbers.
+    Users,
+}
+
+impl Numbered {
+    /// The id with the number.
+    #[inline(always)]
+    fn id(self, number: u32) -> Cid
+        ensures { result ≡ id_of self number }
+    {
+        match self {
+            Numbered::Decisions => Cid::Decide(Var(number)),
+            Numbered::Users => Cid::User(number),
+        }
+    }
+}
+
 impl CidSet {
     /// No id.
     pub fn new(alloc: Global) -> CidSet
@@ -49,7 +71,8 @@ impl CidSet {
 
     /// Adds an id, unless it is there.
     pub fn add(&mut self, cid: &Cid) -> Result<(), NoMemory>
-        ensures { OnOk result (Adds self.old (λ c. c ≡ cid.now) self.new) }
+        ensures ok { OnOk result (Adds self.old (λ c. c ≡ cid.now) self.new) }
+        ensures err { OnErr result (AddsSome self.old (λ c. c ≡ cid.now) self.new) }
     {
         match cid {
             Cid::Decide(var) => self.decisions.add(var.0 as usize),
@@ -58,9 +81,10 @@ impl CidSet {
         }
     }
 
-    /// Adds each of the ids, unless it is there.
+    /// Adds each of the ids, unless it is there. Without memory some of them are added.
     pub fn add_each(&mut self, cids: &[Cid]) -> Result<(), NoMemory>
-        ensures { OnOk result (Adds self.old (Contains cids.now) self.new) }
+        ensures ok { OnOk result (Adds self.old (Contains cids.now) self.new) }
+        ensures err { OnErr result (AddsSome self.old (Contains cids.now) self.new) }
     {
         for cid in cids {
             self.add(cid)?;
@@ -68,9 +92,10 @@ impl CidSet {
         Ok(())
     }
 
-    /// Adds each id of another set, unless it is there.
+    /// Adds each id of another set, unless it is there. Without memory some of them are added.
     pub fn add_all(&mut self, other: &CidSet) -> Result<(), NoMemory>
-        ensures { OnOk result (Adds self.old (IsMember other.now) self.new) }
+        ensures ok { OnOk result (Adds self.old (IsMember other.now) self.new) }
+        ensures err { OnErr result (AddsSome self.old (IsMember other.now) self.new) }
     {
         self.decisions.add_all(&other.decisions)?;
         put_each(&mut self.negations, &other.negations)?;
@@ -92,11 +117,17 @@ impl CidSet {
     pub fn list(&self, alloc: Global) -> Result<Vec<Cid>, NoMemory>
         ensures { IfOk result (λ cids. IsListOf (IsMember self.now) cids.items) }
     {
-        let mut cids = decisions_of(alloc, &self.decisions)?;
-        let users = users_of(alloc, &self.users)?;
+        let mut cids = Vec::with_capacity(alloc, self.count())?;
+        push_ids(&self.decisions, Numbered::Decisions, &mut cids)?;
         cids.extend_from_slice(&self.negations)?;
-        cids.extend_from_slice(&users)?;
+        push_ids(&self.users, Numbered::Users, &mut cids)?;
         Ok(cids)
+    }
+
+    /// How many ids there are.
+    fn count(&self) -> usize {
+        let numbers = self.decisions.count().saturating_add(self.users.count());
+        numbers.saturating_add(self.negations.len())
     }
 }
 
@@ -116,6 +147,7 @@ fn put(cids: &mut Vec<Cid>, cid: &Cid) -> Result<(), NoMemory>
 fn put_each(cids: &mut Vec<Cid>, more: &[Cid]) -> Result<(), NoMemory>
     requires { Rises cids.old.items }
     ensures rises { Rises cids.new.items }
+    ensures stay { (c : CidTerm) → Contains cids.old.items c → Contains cids.new.items c }
     ensures only { (c : CidTerm) → Contains cids.new.items c
         → Contains cids.old.items c ⊎ Contains more.now c }
     ensures ok { OnOk result (IsMerged cids.old.items more.now cids.new.items) }
@@ -126,34 +158,30 @@ fn put_each(cids: &mut Vec<Cid>, more: &[Cid]) -> Result<(), NoMemory>
     Ok(())
 }
 
-/// The ids of the decisions on these variables, by rising id.
-fn decisions_of(alloc: Global, vars: &Places) -> Result<Vec<Cid>, NoMemory>
-    requires { (x : ℕ) → HasPlace vars.now x → x < 2 ^ 32 }
-    ensures { IfOk result (λ cids. IsListOf (IsDecisionIn vars.now) cids.items) }
+/// Appends the ids by the numbers of a word, by rising id.
+fn push_word(word: &PlaceWord, ids: Numbered, cids: &mut Vec<Cid>) -> Result<(), NoMemory>
+    requires aligned { word.now.start % 64 ≡ 0 }
+    requires small { (n : ℕ) → IsIn word.now n → n < 2 ^ 32 }
+    ensures { OnOk result (HasAppended cids.old.items (IsIdOf ids word.now) cids.new.items) }
 {
-    let mut cids = Vec::new(alloc);
-    let mut end = usize::MAX;
-    let mut near = 0;
-    while let Some(var) = vars.last_below(end, &mut near) {
-        cids.push(Cid::Decide(Var(var as u32)))?;
-        end = var;
+    let mut from = 0;
+    while let Some(number) = first_in(word, from) {
+        cids.push(ids.id(number as u32))?;
+        from = number + 1;
     }
-    cids.reverse();
-    Ok(cids)
+    Ok(())
 }
 
-/// The ids of the users with these numbers, by rising id.
-fn users_of(alloc: Global, numbers: &Places) -> Result<Vec<Cid>, NoMemory>
+/// Appends the ids by these numbers, by rising id.
+fn push_ids(numbers: &Places, ids: Numbered, cids: &mut Vec<Cid>) -> Result<(), NoMemory>
     requires { (n : ℕ) → HasPlace numbers.now n → n < 2 ^ 32 }
-    ensures { IfOk result (λ cids. IsListOf (IsUserIn numbers.now) cids.items) }
+    ensures { OnOk result (HasAppended cids.old.items (IsIdIn ids numbers.now) cids.new.items) }
 {
-    let mut cids = Vec::new(alloc);
-    let mut end = usize::MAX;
-    let mut near = 0;
-    while let Some(number) = numbers.last_below(end, &mut near) {
-        cids.push(Cid::User(number as u32))?;
-        end = number;
+    let words = numbers.words();
+    let mut index = words.len();
+    while index > 0 {
+        index -= 1;
+        push_word(&words[index], ids, cids)?;
     }
-    cids.reverse();
-    Ok(cids)
+    Ok(())
 }

@@ -1,10 +1,9 @@
 //! Which removals the removals of values rest on: a walk down the log from one needed removal to the next. What no needed removal has
 //! among its reasons is not looked at, however many such removals stand between. A reason is removed before what it is a reason
 //! for, so that none comes up behind the walk.
-ghost use Rattle.std.specs.Prelude.{◌≡◌, ◌↔◌, ℕ, ◌<◌, [], Some, Contains, length, slice_get, IfOk, OnOk};
+ghost use Rattle.std.specs.Prelude.{◌≡◌, ◌↔◌, ℕ, ◌<◌, [], Some, Contains, length, slice_get, IfOk, OnErr, OnOk};
 ghost use Rattle.palm_base.specs.declared.terms.Cid.{Cid as CidTerm};
-ghost use Rattle.palm_model.specs.Log.{IsListOf};
-ghost use Rattle.palm_explain.specs.CidSets.{Adds, IsMember};
+ghost use Rattle.palm_explain.specs.CidSets.{Adds, AddsSome, IsMember};
 ghost use Rattle.palm_explain.specs.Entries.{AreEntered, log_of, pairs_with, row_span, span_pairs, written};
 ghost use Rattle.palm_explain.specs.Explanations.{NamesOfSome};
 ghost use Rattle.palm_explain.specs.Needed.{AreNotedSpans, Falls, HasNoted, IsNeededAt, IsNotedSpan};
@@ -171,6 +170,7 @@ pub(crate) fn add_needed(
 fn add_next(cids: &mut CidSet, cid: &Cid, last: &mut Option<Cid>) -> Result<(), NoMemory>
     requires { (c : CidTerm) → last.old ≡ Some c → IsMember cids.old c }
     ensures added { OnOk result (Adds cids.old (λ c. c ≡ cid.now) cids.new) }
+    ensures err { OnErr result (AddsSome cids.old (λ c. c ≡ cid.now) cids.new) }
     ensures last { OnOk result ((c : CidTerm) → last.new ≡ Some c → IsMember cids.new c) }
 {
     if let Some(own) = last {
@@ -183,30 +183,31 @@ fn add_next(cids: &mut CidSet, cid: &Cid, last: &mut Option<Cid>) -> Result<(), 
     Ok(())
 }
 
-/// The ids of all constraints on which the removals of these values rest, by rising id.
-pub(crate) fn cids_of(
+/// Adds the ids of all constraints on which the removals of these values rest, where they are removed.
+pub(crate) fn add_cids(
     alloc: Global,
     log: &[Entry],
     rows: &[Row],
     var: Var,
     values: &[Value],
-) -> Result<Vec<Cid>, NoMemory>
+    cids: &mut CidSet,
+) -> Result<(), NoMemory>
     requires entered { (next : ℕ) × AreEntered log.now rows.now next }
-    ensures { IfOk result (λ cids. IsListOf (NamesOfSome (log_of rows.now log.now) var values.now) cids.items) }
+    ensures ok { OnOk result (Adds cids.old (NamesOfSome (log_of rows.now log.now) var values.now) cids.new) }
+    ensures err { OnErr result (AddsSome cids.old (NamesOfSome (log_of rows.now log.now) var values.now) cids.new) }
 {
     let mut noted = Places::new(alloc);
     note_values(rows, var, values, &mut noted)?;
     let mut known = empty_spans(alloc, rows.len())?;
-    let mut cids = CidSet::new(alloc);
     let mut last = None;
     let mut end = NO_NUMBER;
     let mut word = 0;
     let mut near = 0;
     while let Some(number) = noted.last_below(end, &mut word) {
         let entry = entry_at(log, place_near(log, number, &mut near));
-        add_next(&mut cids, &entry.by, &mut last)?;
+        add_next(cids, &entry.by, &mut last)?;
         note_reasons(rows, entry, &mut known, &mut noted)?;
         end = number;
     }
-    cids.list(alloc)
+    Ok(())
 }

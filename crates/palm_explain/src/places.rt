@@ -5,7 +5,7 @@ ghost use Rattle.std.specs.Prelude.{◌≡◌, ◌⊎◌, ℕ, ◌%◌, ◌<◌,
 ghost use Rattle.std.specs.Int.{bit_at};
 ghost use Rattle.palm_base.specs.Order.{IsPartedAt};
 ghost use Rattle.palm_base.specs.Tells.{Tells};
-ghost use Rattle.palm_explain.specs.Places.{ArePlaceWords, BeginsBelow, HasPlace, HasSame, IsGapAt, IsIn, IsLastBelow, IsLastIn, IsMissing, with_bits};
+ghost use Rattle.palm_explain.specs.Places.{ArePlaceWords, BeginsBelow, HasPlace, HasSame, IsFirstIn, IsFirstOne, IsGapAt, IsIn, IsLastBelow, IsLastIn, IsMissing, with_bits};
 ghost use Rattle.palm_explain.specs.declared.places.PlaceWord.{PlaceWord as PlaceWordTerm};
 
 use palm_base::NoMemory;
@@ -76,7 +76,24 @@ impl Places {
         ensures stay { (p : ℕ) → HasPlace self.old p → HasPlace self.new p }
         ensures only { (p : ℕ) → HasPlace self.new p → HasPlace self.old p ⊎ IsIn word.now p }
     {
-        let at = index_near(&self.words, self.near, word.start);
+        let guess = guessed(&self.words, self.near, word.start);
+        if starts_at(&self.words, guess, word.start) {
+            self.near = guess;
+            join_bits(&mut self.words, guess, word.bits);
+            return Ok(());
+        }
+        self.add_far_word(word)
+    }
+
+    /// The same of a word that does not begin where it was guessed.
+    #[inline(never)]
+    fn add_far_word(&mut self, word: &PlaceWord) -> Result<(), NoMemory>
+        requires { word.now.start % 64 ≡ 0 }
+        ensures there { OnOk result ((p : ℕ) → IsIn word.now p → HasPlace self.new p) }
+        ensures stay { (p : ℕ) → HasPlace self.old p → HasPlace self.new p }
+        ensures only { (p : ℕ) → HasPlace self.new p → HasPlace self.old p ⊎ IsIn word.now p }
+    {
+        let at = index_by_halves(&self.words, word.start);
         if starts_at(&self.words, at, word.start) {
             self.near = at;
             join_bits(&mut self.words, at, word.bits);
@@ -107,6 +124,23 @@ impl Places {
         let start = place - place % 64;
         let at = index_near(&self.words, self.near, start);
         starts_at(&self.words, at, start) && has_bit(&self.words, at, place % 64)
+    }
+
+    /// The words. They fall.
+    pub(crate) fn words(&self) -> &[PlaceWord]
+        ensures words { result.now ≡ self.now }
+        ensures formed { ArePlaceWords result.now }
+    {
+        self.words.as_slice()
+    }
+
+    /// How many places there are.
+    pub(crate) fn count(&self) -> usize {
+        let mut count: usize = 0;
+        for word in self.words.as_slice() {
+            count = count.saturating_add(word.bits.count_ones() as usize);
+        }
+        count
     }
 
     /// The last of the places below the end. Its word is looked for first at an index, and `near` is then where it stands.
@@ -148,19 +182,24 @@ fn guessed(words: &[PlaceWord], near: usize, start: usize) -> usize {
     }
 }
 
-/// How many of the words begin behind this place: mostly the word at `near` begins there, or no word is missing between that and it.
+/// How many of the words begin behind this place: mostly no word is missing between the one at `near` and the one that begins there.
 #[inline(always)]
 fn index_near(words: &[PlaceWord], near: usize, start: usize) -> usize
     requires { ArePlaceWords words.now }
     ensures { IsPartedAt (λ w. nat_lt start w.start) words.now result }
 {
-    if starts_at(words, near, start) {
-        return near;
-    }
     let guess = guessed(words, near, start);
     if starts_at(words, guess, start) {
         return guess;
     }
+    index_by_halves(words, start)
+}
+
+/// How many of the words begin behind this place.
+fn index_by_halves(words: &[PlaceWord], start: usize) -> usize
+    requires { ArePlaceWords words.now }
+    ensures { IsPartedAt (λ w. nat_lt start w.start) words.now result }
+{
     words.partition_point(|word| start < word.start)
 }
 
@@ -270,4 +309,33 @@ fn last_in(word: &PlaceWord, end: usize) -> Option<usize>
         return None;
     }
     Some(word.start + low.ilog2() as usize)
+}
+
+/// The first one of a word from a bit on.
+#[inline(always)]
+fn first_one(bits: u64, from: usize) -> Option<usize>
+    requires { from < 64 }
+    ensures some { IfSome result (λ one. IsFirstOne bits from one) }
+    ensures none { IfNone result ((k : ℕ) → from ≤ k → bit_at bits k ≡ 0) }
+{
+    let rest = bits >> from;
+    if rest == 0 {
+        return None;
+    }
+    Some(from + rest.trailing_zeros() as usize)
+}
+
+/// The first place of the word from a place on.
+#[inline(always)]
+pub(crate) fn first_in(word: &PlaceWord, from: usize) -> Option<usize>
+    requires { word.now.start % 64 ≡ 0 }
+    ensures some { IfSome result (λ place. IsFirstIn word.now from place) }
+    ensures none { IfNone result ((p : ℕ) → IsIn word.now p → from ≤ p → ⊥) }
+{
+    let before = from.saturating_sub(word.start);
+    if before >= 64 {
+        return None;
+    }
+    let bit = first_one(word.bits, before)?;
+    Some(word.start + bit)
 }

@@ -6,15 +6,17 @@ ghost use Rattle.palm_domain.specs.Rows.{Ascends, initial_of};
 ghost use Rattle.palm_model.specs.Constraint.{Distinct};
 ghost use Rattle.palm_model.specs.Event.{lost_pairs, vars_of};
 ghost use Rattle.palm_model.specs.Log.{IsListOf, Loses, NamesOfPair, log_pairs};
+ghost use Rattle.palm_explain.specs.CidSets.{Adds, AddsSome};
 ghost use Rattle.palm_explain.specs.Entries.{pairs_with};
 ghost use Rattle.palm_explain.specs.Needed.{AreNeeded};
 ghost use Rattle.palm_explain.specs.Explanations.{AreEnds, AreSpanned, IsLinked, IsSpanned, LacksExactly, NamesOfSome, log_bys, reasons_of, restored_vars};
 
+use crate::cid_set::CidSet;
 use crate::entry::{Entry, place_of};
 use crate::firsts::Firsts;
 use crate::losing::lose_each;
 use crate::naming::names_at;
-use crate::needing::{add_needed, cids_of};
+use crate::needing::{add_cids, add_needed};
 use crate::restored::Restored;
 use crate::rows::{NO_NUMBER, Row, declare_values, number_near, put_number};
 use crate::spans::{Span, are_countable, copy_of, count_of, push_spans, reason_in, spans_of};
@@ -204,6 +206,21 @@ impl ExplainStore {
         self.explanations(pair.var, &[pair.value], out)
     }
 
+    /// Adds the constraints of the explanations of these values of a variable, where they are removed. Without memory some of them
+    /// are added.
+    pub fn add_explanations(
+        &self,
+        var: Var,
+        values: &[Value],
+        cids: &mut CidSet,
+    ) -> Result<(), NoMemory>
+        ensures ok { OnOk result (Adds cids.old (NamesOfSome self.now.log var values.now) cids.new) }
+        ensures err { OnErr result (AddsSome cids.old (NamesOfSome self.now.log var values.now) cids.new) }
+    {
+        let alloc = *self.log.allocator();
+        add_cids(alloc, &self.log, &self.rows, var, values, cids)
+    }
+
     /// Makes `out` the constraints of the explanations of these removed values of a variable, by rising id; without
     /// memory `out` is empty.
     pub fn explanations(
@@ -218,8 +235,10 @@ impl ExplainStore {
     {
         out.clear();
         let alloc = *self.log.allocator();
-        let cids = cids_of(alloc, &self.log, &self.rows, var, values)?;
-        *out = CidList::from_vec(cids);
+        let mut cids = CidSet::new(alloc);
+        self.add_explanations(var, values, &mut cids)?;
+        let list = cids.list(alloc)?;
+        *out = CidList::from_vec(list);
         Ok(())
     }
 

@@ -12,6 +12,8 @@ mod cases;
 #[cfg(test)]
 mod choice;
 #[cfg(test)]
+mod cid_sets;
+#[cfg(test)]
 mod counted;
 #[cfg(test)]
 mod decisions;

@@ -22,6 +22,9 @@ impl Question for Declared {
         assert_eq!(rt; store.variables(), 1);
         assert_eq!(rt; store.initial_values(Var(0)), values.as_slice());
         assert_eq!(rt; store.initial_count(Var(0)), 3);
+        assert_eq!(rt; store.declared_below(Var(0), -2), 0, "below -2");
+        assert_eq!(rt; store.declared_below(Var(0), 5), 2, "below 5");
+        assert_eq!(rt; store.declared_below(Var(0), 6), 3, "below 6");
         assert!(rt; store.declared(pair(0, 5)), "5 is not declared");
         assert!(rt; !store.declared(pair(0, 1)), "1 is declared");
         Ok(())

@@ -28,4 +28,4 @@ returns-in-Decide g c =
     let active = actives_of g.F.Filter.meaning c.args.posted.now in
     let cid = c.args.cid.now in
     let justifier : IsJustifier cid = elim c.in-Decide.is [ inl d ↦ subst IsJustifier (sym d.1) tt | inr u ↦ subst IsJustifier (sym u.1) tt ] in
-    on_ok c.add.result _ _ (flat_justifier active cid (IsMember c.args.cids.now) (IsMember c.add.new.self) justifier) c.add.ensures
+    on_ok c.add.result _ _ (flat_justifier active cid (IsMember c.args.cids.now) (IsMember c.add.new.self) justifier) c.add.ensures.ok

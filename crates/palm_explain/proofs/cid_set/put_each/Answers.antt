@@ -1,4 +1,4 @@
-use Rattle.std.proofs.Common.{List, Contains, inl, inr, subst}
+use Rattle.std.proofs.Common.{List, Contains, inl, inr, sym, subst}
 use Rattle.palm_base.specs.declared.terms.Cid.{Cid}
 use Rattle.palm_base.proofs.cited.Members.{member_take}
 use Rattle.palm_explain.proofs.Rising.{merged_next}
@@ -9,6 +9,9 @@ returns-in_err-put-clause-only c d m = elim (c.loop-cid.invariant.sound d (subst
   | inl o ↦ inl o
   | inr k ↦ inr (member_take c.loop-cid.cid-index c.args.more.now d k)
 ]
+
+pub returns-in_err-put-clause-stay : goal.returns-in_err-put-clause-stay
+returns-in_err-put-clause-stay c d m = subst (λ (l : List Cid). Contains l d) (sym c.in_err-put.ensures.err) (c.loop-cid.invariant.first d m)
 
 pub loop-cid-preserved : goal.loop-cid-preserved
 loop-cid-preserved c =

@@ -1,7 +1,7 @@
 use Rattle.std.proofs.Common.{nat_lt, rules, of_calls}
 use Rattle.std.proofs.lemmas.Fn.{always_returns_same}
 use Rattle.palm_explain.proofs.PlaceSets.{behind_parted}
-use Rattle.palm_explain.proofs.places.index_near.Goals as goal
+use Rattle.palm_explain.proofs.places.index_by_halves.Goals as goal
 
 pub returns : goal.returns
 returns c =
