@@ -86,10 +86,10 @@ impl ExplainStore {
         self.enter_spans(pair, by, spans.as_slice())
     }
 
-    /// Adds a removal behind the others, whose reasons are the removals that the spans stand for; without memory nothing changes.
+    /// Adds a removal behind the others, whose reasons are the removals that the spans stand for, as any spans do; without memory
+    /// nothing changes.
     pub fn enter_spans(&mut self, pair: Pair, by: Cid, spans: &[Span]) -> Result<(), NoMemory>
         requires fresh { Contains (log_pairs self.old.log) pair → ⊥ }
-        requires spanned { (reasons : List PairTerm) × AreSpanned (log_pairs self.old.log) spans.now reasons }
         ensures ok { (reasons : List PairTerm) → AreSpanned (log_pairs self.old.log) spans.now reasons
             → OnOk result (self.new ≡ record self.old { log = self.old.log ++ record { pair = pair; by = by; reasons = reasons } ∷ [] }) }
         ensures err { OnErr result (self.new ≡ self.old) }

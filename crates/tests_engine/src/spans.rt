@@ -1,7 +1,6 @@
 //! A log that is handed spans: each removal has the reasons that they stand for, whether the values were declared or not.
-ghost use Rattle.std.specs.Prelude.{◌≡◌, ℤ, pos, ◌<◌, ◌≤◌, List, Contains};
+ghost use Rattle.std.specs.Prelude.{Contains};
 ghost use Rattle.palm_base.specs.Tells.{Tells};
-ghost use Rattle.palm_explain.specs.Explanations.{IsSpanOf};
 ghost use Rattle.palm_model.specs.Log.{log_pairs};
 
 use crate::calls::pair;
@@ -22,40 +21,6 @@ fn has(log: &ExplainStore, pair: Pair) -> bool
     }
 }
 
-/// The value of this number.
-fn value_of(number: u8) -> Value
-    ensures { result ≡ pos number }
-{
-    Value(i32::from(number))
-}
-
-/// The span of those of the variable's values from `low` to `high` that are removed.
-fn span_between(log: &ExplainStore, var: u32, low: u8, high: u8) -> Span
-    requires order { low ≤ high }
-    requires most { high < 255 }
-    ensures { (values : List ℤ) × IsSpanOf (log_pairs log.now.log) result values }
-{
-    let mut count = 0;
-    for value in low..high + 1 {
-        let value = value_of(value);
-        if has(
-            log,
-            Pair {
-                var: Var(var),
-                value,
-            },
-        ) {
-            count += 1;
-        }
-    }
-    Span {
-        var: Var(var),
-        low: value_of(low),
-        high: value_of(high),
-        count,
-    }
-}
-
 /// Enters the pair by the user's constraint of this number, where it is not removed. Its reasons are the removed ones of the
 /// variable's values from `low` to `high`.
 fn remove_for(
@@ -63,17 +28,18 @@ fn remove_for(
     gone: &Pair,
     by: u32,
     var: u32,
-    low: u8,
-    high: u8,
-) -> Result<(), NoMemory>
-    requires order { low ≤ high }
-    requires most { high < 255 }
-{
+    low: i32,
+    high: i32,
+) -> Result<(), NoMemory> {
     let Pair { var: own, value } = *gone;
     if has(log, Pair { var: own, value }) {
         return Ok(());
     }
-    let span = span_between(log, var, low, high);
+    let span = Span {
+        var: Var(var),
+        low: Value(low),
+        high: Value(high),
+    };
     log.enter_spans(Pair { var: own, value }, Cid::User(by), &[span])
 }
 

@@ -12,14 +12,6 @@ spans_of-requires-clause-removed c p m =
     let e = pair_entry rows c.self.inside.log.items p ((rw (← c.self.view_is) at c.requires.earlier) p m) in
     (e.0.number, ap (λ rs. number_at rs p) c.deref.ensures.value ∙ ap (number_at rows) (sym e.2) ∙ c.self.invariant.entered.found e.0 e.1)
 
-pub enter_spans-requires-clause-spanned : goal.enter_spans-requires-clause-spanned
-enter_spans-requires-clause-spanned c = (
-  c.args.reasons.now,
-  subst (λ ss. AreSpanned (log_pairs c.args.self.now.log) ss c.args.reasons.now) (sym c.as_slice.ensures)
-      (subst (λ (v : Explanations). AreSpanned (log_pairs v.log) c.in_ok-spans.spans.items c.args.reasons.now) c.self.view_is
-      (list_spanned c.self.inside.log.items c.self.inside.rows.items c.self.inside.next c.self.invariant.entered c.in_ok-spans.spans.items c.args.reasons.now (rw (← c.self.view_is) at c.requires.earlier) (rw c.deref.ensures.value at c.in_ok-spans.ensures c.self.inside.next))),
-)
-
 pub returns-clause-ok : goal.returns-clause-ok
 returns-clause-ok c =
     c.enter_spans.ensures.ok c.args.reasons.now
