@@ -237,6 +237,7 @@ fn show(
 }
 
 /// The id of the constraint at the place.
+#[inline(always)]
 fn cid_at(connections: &Connections, place: usize) -> Cid
     requires { place < length connections.now }
     ensures { slice_get (connected_cids connections.now) place ≡ Some result }
