@@ -19,6 +19,7 @@ ghost use Rattle.palm_agenda.specs.Places.{mark_places};
 
 use crate::cids::Cids;
 use crate::connection::{Connection, Places};
+use crate::connections::Connections;
 use crate::flags::{Flags, raised_from};
 use crate::heard::Heard;
 use crate::loss::Loss;
@@ -27,7 +28,7 @@ use crate::open::Open;
 use crate::order::Order;
 use crate::over::{cids_over, insert_over, make_room, remove_over};
 use crate::taken::Taken;
-use palm_base::{Cid, HasCid, NoMemory, Value, Var, place_of, stands_at};
+use palm_base::{Cid, HasCid, NoMemory, Value, Var};
 use palm_filter::Heed;
 use std::alloc::Global;
 use std::marker::Model;
@@ -46,7 +47,7 @@ struct Woken {
 /// its number the user's constraint stands that was looked for last; it wraps around.
 #[derive(Debug, Drop)]
 pub struct Agenda {
-    connections: Vec<Connection>,
+    connections: Connections,
     pending: Flags,
     over: Vec<Cids>,
     shown: Vec<Cid>,
@@ -63,28 +64,28 @@ impl Model for Agenda {
 
     ghost Value = { Waiting };
 
-    ghost view = { λ a. record { connected = a.connections.items; pending = flagged (connected_cids a.connections.items) a.pending.flags } };
+    ghost view = { λ a. record { connected = a.connections; pending = flagged (connected_cids a.connections) a.pending.flags } };
 
-    ghost invariant = { λ a. IsAgenda a.connections.items a.over.items a.pending.flags (vec_capacity a.shown)
-        × IsShown a.is_shown a.shown.items (flagged (connected_cids a.connections.items) a.pending.flags)
-        × IsWoken a.woken a.connections.items (flagged (connected_cids a.connections.items) a.pending.flags) };
+    ghost invariant = { λ a. IsAgenda a.connections a.over.items a.pending.flags (vec_capacity a.shown)
+        × IsShown a.is_shown a.shown.items (flagged (connected_cids a.connections) a.pending.flags)
+        × IsWoken a.woken a.connections (flagged (connected_cids a.connections) a.pending.flags) };
 }
 
 /// How many of the connected constraints have ids that come before this one. That of a user is looked for first where it
 /// stands if it lags behind its number as the last one did. Where it does not, its own lag is known from then on.
 #[inline(always)]
-fn place_near(connections: &[Connection], lag: &mut usize, cid: &Cid) -> usize
+fn place_near(connections: &Connections, lag: &mut usize, cid: &Cid) -> usize
     requires { Rises (connected_cids connections.now) }
     ensures { IsPartedAt (λ d. cid_before d.cid cid.now) connections.now result }
 {
     let Cid::User(number) = cid else {
-        return place_of(connections, cid);
+        return connections.place_of(cid);
     };
     let guess = lag.wrapping_add(*number as usize);
-    if stands_at(connections, guess, cid) {
+    if connections.stands_at(guess, cid) {
         return guess;
     }
-    let place = place_of(connections, cid);
+    let place = connections.place_of(cid);
     *lag = place.wrapping_sub(*number as usize);
     place
 }
@@ -93,7 +94,7 @@ fn place_near(connections: &[Connection], lag: &mut usize, cid: &Cid) -> usize
 /// and it is heard how it heeds losses of the variable.
 #[inline(always)]
 fn wake_named(
-    connections: &mut Vec<Connection>,
+    connections: &mut Connections,
     pending: &mut Flags,
     lag: &mut usize,
     heard: &mut Heard,
@@ -101,25 +102,24 @@ fn wake_named(
     places: &Places,
     var: &Var,
 )
-    requires rising { Rises (connected_cids connections.old.items) }
-    requires flags { length pending.old.flags ≡ length connections.old.items }
-    requires over { IsOver connections.old.items var.now cid.now }
+    requires rising { Rises (connected_cids connections.old) }
+    requires flags { length pending.old.flags ≡ length connections.old }
+    requires over { IsOver connections.old var.now cid.now }
     requires hearing { IsHearing heard.old places.now }
-    ensures marks { connections.new.items ≡ map (changed_at cid.now (mark_places places.now var.now)) connections.old.items }
-    ensures pending { (c : CidTerm) → Contains (flagged (connected_cids connections.new.items) pending.new.flags) c
-        ↔ (Contains (flagged (connected_cids connections.old.items) pending.old.flags) c ⊎ (c ≡ cid.now)) }
+    ensures marks { connections.new ≡ map (changed_at cid.now (mark_places places.now var.now)) connections.old }
+    ensures pending { (c : CidTerm) → Contains (flagged (connected_cids connections.new) pending.new.flags) c
+        ↔ (Contains (flagged (connected_cids connections.old) pending.old.flags) c ⊎ (c ≡ cid.now)) }
     ensures flags { length pending.new.flags ≡ length pending.old.flags }
     ensures hearing { IsHearing heard.new places.now }
-    ensures covers { (d : Connected) → Contains connections.old.items d → d.cid ≡ cid.now
+    ensures covers { (d : Connected) → Contains connections.old d → d.cid ≡ cid.now
         → Covers heard.new.still places.now (heed_of var.now d.scope d.heeds) }
     ensures more { (l : LossTerm) → is_open heard.new.still l ≡ false
         → is_open heard.old.still l ≡ false }
 {
     let place = place_near(connections, lag, cid);
-    let connection = &mut connections[place];
-    let heed = connection.heed_of(var);
+    let heed = connections.at(place).heed_of(var);
     heard.hear(heed, places);
-    connection.mark(places, var, &heard.change);
+    connections.mark(place, places, var, &heard.change);
     pending.raise(place);
 }
 
@@ -138,21 +138,21 @@ fn is_noted(woken: &Option<Woken>, var: &Var, loss: &Loss) -> bool
 /// losses of the variable may mark something more.
 #[inline(always)]
 fn wake_each(
-    connections: &mut Vec<Connection>,
+    connections: &mut Connections,
     pending: &mut Flags,
     known: &mut usize,
     cids: &[Cid],
     places: &Places,
     var: &Var,
 ) -> Open
-    requires rising { Rises (connected_cids connections.old.items) }
-    requires flags { length pending.old.flags ≡ length connections.old.items }
-    requires over { (c : CidTerm) → Contains cids.now c → IsOver connections.old.items var.now c }
-    ensures marks { connections.new.items ≡ map (changed_among cids.now (mark_places places.now var.now)) connections.old.items }
-    ensures pending { (c : CidTerm) → Contains (flagged (connected_cids connections.new.items) pending.new.flags) c
-        ↔ (Contains (flagged (connected_cids connections.old.items) pending.old.flags) c ⊎ Contains cids.now c) }
+    requires rising { Rises (connected_cids connections.old) }
+    requires flags { length pending.old.flags ≡ length connections.old }
+    requires over { (c : CidTerm) → Contains cids.now c → IsOver connections.old var.now c }
+    ensures marks { connections.new ≡ map (changed_among cids.now (mark_places places.now var.now)) connections.old }
+    ensures pending { (c : CidTerm) → Contains (flagged (connected_cids connections.new) pending.new.flags) c
+        ↔ (Contains (flagged (connected_cids connections.old) pending.old.flags) c ⊎ Contains cids.now c) }
     ensures flags { length pending.new.flags ≡ length pending.old.flags }
-    ensures covers { (d : Connected) → Contains connections.old.items d → Contains cids.now d.cid → Covers result places.now (heed_of var.now d.scope d.heeds) }
+    ensures covers { (d : Connected) → Contains connections.old d → Contains cids.now d.cid → Covers result places.now (heed_of var.now d.scope d.heeds) }
 {
     let mut lag = *known;
     let mut heard = Heard::new(places);
@@ -164,14 +164,13 @@ fn wake_each(
 }
 
 /// Takes a mark of the constraint away.
-fn unmark_taken(connections: &mut Vec<Connection>, taken: &Taken, place: usize)
-    requires rising { Rises (connected_cids connections.old.items) }
-    requires standing { IsStanding connections.old.items taken.now }
-    requires within { HasPlace connections.old.items taken.now.cid place }
-    ensures { connections.new.items ≡ map (changed_at taken.now.cid (unmarked place)) connections.old.items }
+fn unmark_taken(connections: &mut Connections, taken: &Taken, place: usize)
+    requires rising { Rises (connected_cids connections.old) }
+    requires standing { IsStanding connections.old taken.now }
+    requires within { HasPlace connections.old taken.now.cid place }
+    ensures { connections.new ≡ map (changed_at taken.now.cid (unmarked place)) connections.old }
 {
-    let connection = &mut connections[taken.at];
-    connection.unmark(place);
+    connections.unmark(taken.at, place);
 }
 
 /// Makes room for one more constraint over the scope: for its id over each variable, for its flag, and for so many ids
@@ -212,7 +211,7 @@ fn show_one(shown: &mut Vec<Cid>, cid: &Cid)
 fn show(
     is_shown: bool,
     shown: &mut Vec<Cid>,
-    connections: &[Connection],
+    connections: &Connections,
     flags: &[bool],
     lowest: usize,
     raised: usize,
@@ -238,14 +237,16 @@ fn show(
 }
 
 /// The id of the constraint at the place.
-fn cid_at(connections: &[Connection], place: usize) -> Cid
+#[inline(always)]
+fn cid_at(connections: &Connections, place: usize) -> Cid
     requires { place < length connections.now }
     ensures { slice_get (connected_cids connections.now) place ≡ Some result }
 {
-    connections[place].cid()
+    connections.at(place).cid()
 }
 
 /// Whether each of the marks is clear.
+#[inline(always)]
 fn are_clear(marks: &[Mark]) -> bool
     ensures { Tells result (All (λ mark. mark ≡ Clear) marks.now) }
 {
@@ -282,7 +283,7 @@ impl Agenda {
         ensures { result ≡ record { connected = []; pending = [] } }
     {
         Agenda {
-            connections: Vec::new(alloc),
+            connections: Connections::new(alloc),
             pending: Flags::new(alloc),
             over: Vec::new(alloc),
             shown: Vec::new(alloc),
@@ -311,9 +312,9 @@ impl Agenda {
             scope,
             count,
         )?;
-        let alloc = *self.connections.allocator();
+        let alloc = *self.over.allocator();
         let connection = Connection::new(alloc, cid.copy(), scope, heeds)?;
-        let place = place_of(&self.connections, &cid);
+        let place = self.connections.place_of(&cid);
         self.connections.insert(place, connection)?;
         self.pending.insert(place);
         insert_over(&mut self.over, scope, &cid);
@@ -328,7 +329,7 @@ impl Agenda {
     {
         self.is_shown = false;
         self.woken = None;
-        let place = place_of(&self.connections, &cid);
+        let place = self.connections.place_of(&cid);
         let connection = self.connections.remove(place);
         self.pending.remove(place);
         remove_over(&mut self.over, connection.scope(), &cid);
@@ -405,10 +406,11 @@ impl Agenda {
         ensures marks { (d : Connected) → Contains self.now.connected d → d.cid ≡ taken.now.cid → result.now ≡ d.marks }
         ensures whole { (d : Connected) → Contains self.now.connected d → d.cid ≡ taken.now.cid → length result.now ≡ length d.scope }
     {
-        self.connections[taken.at].marks()
+        self.connections.at(taken.at).marks()
     }
 
     /// Whether no value may lack support in the constraint: each of its marks is clear.
+    #[inline(always)]
     pub fn is_clear(&self, taken: &Taken) -> bool
         requires { IsStanding self.now.connected taken.now }
         ensures { (d : Connected) → Contains self.now.connected d → d.cid ≡ taken.now.cid → Tells result (All (λ mark. mark ≡ Clear) d.marks) }
@@ -503,7 +505,7 @@ impl Agenda {
         );
         let answer = order.next(&self.shown);
         let cid = take_chosen(&mut self.shown, answer);
-        let place = place_of(&self.connections, &cid);
+        let place = self.connections.place_of(&cid);
         self.pending.lower(place);
         self.is_shown = true;
         self.woken = None;

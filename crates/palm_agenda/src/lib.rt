@@ -5,6 +5,7 @@
 mod agenda;
 mod cids;
 mod connection;
+mod connections;
 mod flags;
 mod heard;
 mod loss;

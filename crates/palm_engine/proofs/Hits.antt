@@ -1,9 +1,8 @@
 -- The values that the only value of another variable rules out.
-use Rattle.std.proofs.Common.{◌≡◌, ℕ, ◌-◌, ◌<◌, Bool, true, false, cond, ℤ, pos, ◌+ℤ◌, ◌-ℤ◌, ◌<ℤ◌, ◌≤ℤ◌, Option, Some, None, IfNone, IfSome, List, [], ◌∷◌, length, get_or, Contains, int_lt, ◌⊎◌, inl, inr, sym, ◌∙◌, subst, arith}
+use Rattle.std.proofs.Common.{◌≡◌, ℕ, ◌<◌, Bool, true, false, cond, ℤ, pos, ◌+ℤ◌, ◌-ℤ◌, ◌<ℤ◌, ◌≤ℤ◌, Option, Some, None, IfNone, IfSome, List, [], ◌∷◌, length, Contains, int_lt, ◌⊎◌, inl, inr, sym, ◌∙◌, subst, arith}
 use Rattle.std.proofs.lemmas.Int.{ints, clamps}
 use Rattle.std.proofs.lemmas.List.Elements.{All-contains}
 use Rattle.palm_base.proofs.cited.Members.{int_known, member_here, member_nil, member_there, member_single}
-use Rattle.palm_domain.proofs.cited.Ascending.{get_or-rises}
 use Rattle.palm_model.specs.Domains.{Domains, Ascends, Has, values_of}
 use Rattle.palm_filter.specs.Shapes.{HasOther, HasTwo, LeavesFree}
 use Rattle.palm_engine.specs.Advancing.{IsBefore, IsNextHit, lesser_of}
@@ -46,14 +45,6 @@ other_of_two d x n two = elim (int_known two.one n) [
 -- the only value of a variable that is not more by the number leaves a value free
 pub other_by : (d : Domains) (y : ℕ) (u v by : ℤ) → Has d y u → (v ≡ (u +ℤ by) → ⊥) → HasOther d y (v -ℤ by)
 other_by d y u v by has apart = record { other = u; has = has; different = λ e. apart (omega (arith, ints, e)) }
-
--- the last of ascending values is the greatest
-pub up_to_last : (vs : List ℤ) (v last : ℤ) → Ascends vs → last ≡ get_or vs (length vs - 1) last → Contains vs v → v ≤ℤ last
-up_to_last vs v last up at_last k =
-    let lt : k.0 < length vs = k.1 in
-    let here : get_or vs k.0 v ≡ v = k.2 in
-    let high = get_or-rises vs up k.0 (length vs - 1) v last (omega (arith, lt)) (omega (arith, lt)) in
-    omega (arith, ints, high, at_last, here)
 
 -- ---- the next value that is ruled out
 

@@ -69,13 +69,13 @@ fn hit_at(store: &DomainStore, other: Var, var: Var, by: i32, from: Value) -> Op
     requires declared { other < length store.now }
     requires over { var < length store.now }
     requires filled { 0 < length (values_of (present_of store.now) other) }
+    requires some { 0 < length (values_of (present_of store.now) var) }
     ensures none { IfNone result ((v : ℤ) → Has (present_of store.now) var v → from ≤ℤ v → HasOther (present_of store.now) other (v -ℤ by)) }
     ensures some { IfSome result (λ hit. Has (present_of store.now) var hit × (from ≤ℤ hit)
         × ((v : ℤ) → v ≢ hit → HasOther (present_of store.now) other (v -ℤ by))) }
 {
     let number = raised(&store.least(other), by);
-    let values = store.initial_values(var);
-    let value = value_between(number, &from, &values[values.len() - 1])?;
+    let value = value_between(number, &from, &store.greatest(var))?;
     if store.contains(Pair { var, value }) {
         Some(value)
     } else {
@@ -95,10 +95,12 @@ fn lesser(first: Option<Value>, second: Option<Value>) -> Option<Value>
 }
 
 /// The least present value from `from` on that the only value of one of the other variables rules out.
+#[inline(always)]
 fn next_hit(store: &DomainStore, vars: &[Var], var: Var, by: i32, from: Value) -> Option<Value>
     requires declared { All (λ y. y < length store.now) vars.now }
     requires over { var < length store.now }
     requires filled { (y : ℕ) → Contains vars.now y → y ≢ var → 0 < length (values_of (present_of store.now) y) }
+    requires some { 0 < length (values_of (present_of store.now) var) }
     ensures none { IfNone result ((v : ℤ) → Has (present_of store.now) var v → from ≤ℤ v → LeavesFree (present_of store.now) vars.now var by v) }
     ensures some { IfSome result (IsNextHit (present_of store.now) vars.now var by from) }
 {
@@ -112,6 +114,7 @@ fn next_hit(store: &DomainStore, vars: &[Var], var: Var, by: i32, from: Value) -
 }
 
 /// The least present value above this one that the only value of one of the other variables rules out.
+#[inline(never)]
 fn hit_after(store: &DomainStore, vars: &[Var], var: Var, by: i32, value: Value) -> Option<Value>
     requires declared { All (λ y. y < length store.now) vars.now }
     requires over { var < length store.now }

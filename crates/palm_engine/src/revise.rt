@@ -77,11 +77,12 @@ pub(crate) fn revise<F: Filter, L: Ledger>(
     if filtering.agenda.is_clear(taken) {
         return Ok(());
     }
-    for place in 0..constraint.scope().len() {
+    let scope = constraint.scope();
+    for place in 0..scope.len() {
         if filtering.empty.is_some() {
             return Ok(());
         }
-        let var = constraint.scope()[place];
+        let var = scope[place];
         revise_place(filtering, constraint, taken, place, var, room, steps)?;
     }
     Ok(())

@@ -60,9 +60,6 @@ cids_without cid connected = cids_filter (λ c. not (is_named (cid ∷ []) c)) c
 
 -- ---- places
 
-pub parted_in : (looked connected : List Connected) (cid : Cid) (place : ℕ) → looked ≡ connected → IsPartedAt (λ d. cid_before d.cid cid) looked place → IsPartedAt (λ d. cid_before d.cid cid) connected place
-parted_in looked connected cid place is at = subst (λ ds. IsPartedAt (λ d. cid_before d.cid cid) ds place) is at
-
 module _ (connected : List Connected) (rises : Rises (connected_cids connected)) (cid : Cid) (place : ℕ) (at : IsPartedAt (λ d. cid_before d.cid cid) connected place) where
   pub stands : (d : Connected) → Contains connected d → d.cid ≡ cid → slice_get connected place ≡ Some d
   stands d m named = listed_at cid_of cid_before rising connected (sorted_connected connected rises) cid place at d m named

@@ -10,4 +10,4 @@ returns c =
     let many = length-map c.args.connections.now cid_of in
     let within = c.requires in
     slice_get-get_or (connected_cids c.args.connections.now) c.args.place c.cid.result (omega arith)
-    ∙ ap Some (get_or-map cid_of c.args.connections.now c.args.place c.index-connections-place.result c.cid.result c.requires ∙ ap cid_of (sym c.index-connections-place.is) ∙ sym c.cid.ensures)
+    ∙ ap Some (get_or-map cid_of c.args.connections.now c.args.place c.at.result.now c.cid.result c.requires ∙ ap cid_of (sym c.at.ensures) ∙ sym c.cid.ensures)

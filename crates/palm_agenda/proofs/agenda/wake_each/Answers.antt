@@ -12,8 +12,8 @@ use Rattle.palm_agenda.proofs.agenda.wake_each.Goals as goal
 
 pub loop-cid-init : goal.loop-cid-init
 loop-cid-init c = record {
-  marks = changed_none (mark_places c.args.places.now c.args.var.now) c.args.connections.now.items;
-  pending = none_put (flagged (connected_cids c.args.connections.now.items) c.args.pending.now.flags);
+  marks = changed_none (mark_places c.args.places.now c.args.var.now) c.args.connections.now;
+  pending = none_put (flagged (connected_cids c.args.connections.now) c.args.pending.now.flags);
   covers = λ d listed among. absurd (member_nil d.cid among);
   hearing = c.new-heard.ensures;
   flags = refl;
@@ -23,33 +23,33 @@ pub wake_named-requires-clause-rising : goal.wake_named-requires-clause-rising
 wake_named-requires-clause-rising c =
     rises_changed (changed_among (take c.loop-cid.cid-index c.args.cids.now) (mark_places c.args.places.now c.args.var.now))
     (keeps_among (take c.loop-cid.cid-index c.args.cids.now) (mark_places c.args.places.now c.args.var.now) (keeps_places c.args.places.now c.args.var.now))
-    c.args.connections.now.items c.loop-cid.connections.items c.loop-cid.invariant.marks c.requires.rising
+    c.args.connections.now c.loop-cid.connections c.loop-cid.invariant.marks c.requires.rising
 
 pub wake_named-requires-clause-flags : goal.wake_named-requires-clause-flags
 wake_named-requires-clause-flags c =
     c.loop-cid.invariant.flags ∙ c.requires.flags
-    ∙ sym (length-map c.args.connections.now.items (changed_among (take c.loop-cid.cid-index c.args.cids.now) (mark_places c.args.places.now c.args.var.now)))
+    ∙ sym (length-map c.args.connections.now (changed_among (take c.loop-cid.cid-index c.args.cids.now) (mark_places c.args.places.now c.args.var.now)))
     ∙ ap length (sym c.loop-cid.invariant.marks)
 
 pub wake_named-requires-clause-over : goal.wake_named-requires-clause-over
 wake_named-requires-clause-over c =
     over_changed (changed_among (take c.loop-cid.cid-index c.args.cids.now) (mark_places c.args.places.now c.args.var.now))
     (keeps_among (take c.loop-cid.cid-index c.args.cids.now) (mark_places c.args.places.now c.args.var.now) (keeps_places c.args.places.now c.args.var.now))
-    c.args.connections.now.items c.loop-cid.connections.items c.args.var.now c.cid-item.result c.loop-cid.invariant.marks
+    c.args.connections.now c.loop-cid.connections c.args.var.now c.cid-item.result c.loop-cid.invariant.marks
     (c.requires.over c.cid-item.result (c.loop-cid.cid-index, c.loop-cid-test.true, sym c.cid-item.is))
 
 pub loop-cid-preserved : goal.loop-cid-preserved
 loop-cid-preserved c = record {
   marks =
       c.wake_named.ensures.marks ∙ ap (map (changed_at c.cid-item.result (mark_places c.args.places.now c.args.var.now))) c.loop-cid.invariant.marks
-      ∙ marked_more c.args.places.now c.args.var.now c.args.cids.now c.loop-cid.cid-index c.cid-item.result c.args.connections.now.items c.loop-cid-test.true c.cid-item.is;
+      ∙ marked_more c.args.places.now c.args.var.now c.args.cids.now c.loop-cid.cid-index c.cid-item.result c.args.connections.now c.loop-cid-test.true c.cid-item.is;
   pending =
-      put_set (flagged (connected_cids c.args.connections.now.items) c.args.pending.now.flags) (flagged (connected_cids c.loop-cid.connections.items) c.loop-cid.pending.flags)
-      (flagged (connected_cids c.wake_named.new.connections.items) c.wake_named.new.pending.flags) c.args.cids.now c.loop-cid.cid-index c.cid-item.result c.loop-cid-test.true c.cid-item.is
+      put_set (flagged (connected_cids c.args.connections.now) c.args.pending.now.flags) (flagged (connected_cids c.loop-cid.connections) c.loop-cid.pending.flags)
+      (flagged (connected_cids c.wake_named.new.connections) c.wake_named.new.pending.flags) c.args.cids.now c.loop-cid.cid-index c.cid-item.result c.loop-cid-test.true c.cid-item.is
       c.loop-cid.invariant.pending c.wake_named.ensures.pending;
   covers = heeds_more (changed_among (take c.loop-cid.cid-index c.args.cids.now) (mark_places c.args.places.now c.args.var.now))
       (keeps_among (take c.loop-cid.cid-index c.args.cids.now) (mark_places c.args.places.now c.args.var.now) (keeps_places c.args.places.now c.args.var.now))
-      c.args.var.now c.args.connections.now.items c.loop-cid.connections.items c.loop-cid.invariant.marks c.args.cids.now c.loop-cid.cid-index c.cid-item.result c.loop-cid-test.true c.cid-item.is
+      c.args.var.now c.args.connections.now c.loop-cid.connections c.loop-cid.invariant.marks c.args.cids.now c.loop-cid.cid-index c.cid-item.result c.loop-cid-test.true c.cid-item.is
       (Covers c.wake_named.new.heard.still c.args.places.now)
       (λ d listed among. covers_more c.loop-cid.heard.still c.wake_named.new.heard.still c.wake_named.ensures.more c.args.places.now (heed_of c.args.var.now d.scope d.heeds) (c.loop-cid.invariant.covers d listed among))
       c.wake_named.ensures.covers;
@@ -59,7 +59,7 @@ loop-cid-preserved c = record {
 
 pub returns-clause-pending : goal.returns-clause-pending
 returns-clause-pending c =
-    put_all_set (flagged (connected_cids c.args.connections.now.items) c.args.pending.now.flags) (flagged (connected_cids c.loop-cid.connections.items) c.loop-cid.pending.flags)
+    put_all_set (flagged (connected_cids c.args.connections.now) c.args.pending.now.flags) (flagged (connected_cids c.loop-cid.connections) c.loop-cid.pending.flags)
     c.args.cids.now c.loop-cid.cid-index c.loop-cid-test.false c.loop-cid.invariant.pending
 
 pub returns-clause-covers : goal.returns-clause-covers

@@ -11,10 +11,10 @@ use Rattle.palm_agenda.proofs.agenda.wake_each.Given as goal
 -- the constraints under the ids so far are marked, and pending, and which losses may mark more there is noted
 abbrev pub invariant-loop-cid : goal.invariant-loop-cid
 invariant-loop-cid l = record {
-  marks : l.connections.items ≡ map (changed_among (take l.cid-index l.cids) (mark_places l.places l.var)) l.initial.connections.items;
-  pending : (c : Cid) → Contains (flagged (connected_cids l.connections.items) l.pending.flags) c
-      ↔ (Contains (flagged (connected_cids l.initial.connections.items) l.initial.pending.flags) c ⊎ Contains (take l.cid-index l.cids) c);
-  covers : (d : Connected) → Contains l.initial.connections.items d → Contains (take l.cid-index l.cids) d.cid → Covers l.heard.still l.places (heed_of l.var d.scope d.heeds);
+  marks : l.connections ≡ map (changed_among (take l.cid-index l.cids) (mark_places l.places l.var)) l.initial.connections;
+  pending : (c : Cid) → Contains (flagged (connected_cids l.connections) l.pending.flags) c
+      ↔ (Contains (flagged (connected_cids l.initial.connections) l.initial.pending.flags) c ⊎ Contains (take l.cid-index l.cids) c);
+  covers : (d : Connected) → Contains l.initial.connections d → Contains (take l.cid-index l.cids) d.cid → Covers l.heard.still l.places (heed_of l.var d.scope d.heeds);
   hearing : IsHearing l.heard l.places;
   flags : length l.pending.flags ≡ length l.initial.pending.flags;
 }

@@ -1,10 +1,10 @@
-use Rattle.std.proofs.Common.{◌≡◌, ◌+ℤ◌, ◌-ℤ◌, ◌≤ℤ◌, w32, w64, rules, sym, ap, ◌∙◌, subst, arith}
+use Rattle.std.proofs.Common.{◌≡◌, ◌+ℤ◌, ◌≤ℤ◌, w32, w64, rules, sym, ap, ◌∙◌, subst}
 use mir.Val.{SFits}
 use Rattle.std.proofs.lemmas.Int.{to_z-of_z}
 use Rattle.palm_base.proofs.cited.Telling.{tells_false, tells_true}
 use Rattle.palm_domain.specs.Rows.{IsPresent, present_of}
 use Rattle.palm_model.specs.Domains.{Has}
-use Rattle.palm_engine.proofs.Hits.{other_by, up_to_last, if_none}
+use Rattle.palm_engine.proofs.Hits.{other_by, if_none}
 use Rattle.palm_engine.proofs.apart.hit_at.Goals as goal
 
 pub returns-in_err-value-clause-none : goal.returns-in_err-value-clause-none
@@ -12,12 +12,10 @@ returns-in_err-value-clause-none c = if_none c.from_residual.result (λ v has le
     let number = c.raised-number.result in
     let fits : SFits w64 number = search rules in
     let number_is : number ≡ (c.least.result +ℤ c.args.by) = c.raised-number.ensures ∙ ap (λ z. c.least.result +ℤ z) (to_z-of_z w32 c.args.by c.ranges.by) in
-    let values = c.initial_values-values in
     other_by (present_of c.args.store.now) c.args.other c.least.result v c.args.by c.least.ensures.member (λ e.
     let same = e ∙ sym number_is ∙ sym (to_z-of_z w64 number fits) in
     c.in_err-value.ensures.none (subst (λ z. c.args.from ≤ℤ z) same le)
-    (subst (λ z. z ≤ℤ c.index-values-values.result) same
-    (up_to_last values.result.now v c.index-values-values.result values.ensures.ascend c.index-values-values.is (values.ensures.inside v has)))))
+    (subst (λ z. z ≤ℤ c.greatest.result) same (c.greatest.ensures.greatest v has))))
 
 pub returns-else-contains-clause-none : goal.returns-else-contains-clause-none
 returns-else-contains-clause-none c = λ v has le.

@@ -35,8 +35,8 @@ returns-then-is_some-clause-counted g c =
 
 pub revise_place-requires-clause-at : goal.revise_place-requires-clause-at
 revise_place-requires-clause-at g c =
-    place_at c.scope.result.now (scope (active_of g.F.Filter.meaning c.args.constraint.now).con) c.scope-place-end.result.now c.loop-place.place c.index-scope-place.result
-    c.scope.ensures.scope c.scope-place-end.ensures.scope c.loop-place-test.true c.index-scope-place.is
+    place_at c.scope-scope.result.now (scope (active_of g.F.Filter.meaning c.args.constraint.now).con) c.scope-scope.result.now c.loop-place.place c.index-scope-place.result
+    c.scope-scope.ensures.scope c.scope-scope.ensures.scope c.loop-place-test.true c.index-scope-place.is
 
 pub revise_place-requires-clause-revising : goal.revise_place-requires-clause-revising
 revise_place-requires-clause-revising g c = let r = c.requires.revising in (r.0, (c.loop-place.invariant r.0 r.1).revising)
@@ -58,7 +58,7 @@ pub returns-in_err-revise_place-clause-part : goal.returns-in_err-revise_place-c
 returns-in_err-revise_place-clause-part g c = λ active r.
     let owner = active_of g.F.Filter.meaning c.args.constraint.now in
     let w = c.loop-place.invariant active r in
-    let at = place_at c.scope.result.now (scope owner.con) c.scope-place-end.result.now c.loop-place.place c.index-scope-place.result c.scope.ensures.scope c.scope-place-end.ensures.scope c.loop-place-test.true c.index-scope-place.is in
+    let at = place_at c.scope-scope.result.now (scope owner.con) c.scope-scope.result.now c.loop-place.place c.index-scope-place.result c.scope-scope.ensures.scope c.scope-scope.ensures.scope c.loop-place-test.true c.index-scope-place.is in
     on_err_of c.from_residual.result (places_stopped active owner c.loop-place.place c.index-scope-place.result c.args.filtering.now c.loop-place.filtering c.revise_place.new.filtering c.args.steps.now c.loop-place.steps
     at w (c.in_err-revise_place.ensures.part active w.revising))
 
@@ -69,7 +69,7 @@ pub returns-in_err-revise_place-clause-counted : goal.returns-in_err-revise_plac
 returns-in_err-revise_place-clause-counted g c =
     let owner = active_of g.F.Filter.meaning c.args.constraint.now in
     let r = c.requires.revising in
-    let at = place_at c.scope.result.now (scope owner.con) c.scope-place-end.result.now c.loop-place.place c.index-scope-place.result c.scope.ensures.scope c.scope-place-end.ensures.scope c.loop-place-test.true c.index-scope-place.is in
+    let at = place_at c.scope-scope.result.now (scope owner.con) c.scope-scope.result.now c.loop-place.place c.index-scope-place.result c.scope-scope.ensures.scope c.scope-scope.ensures.scope c.loop-place-test.true c.index-scope-place.is in
     places_part_counted r.0 owner c.loop-place.place c.index-scope-place.result c.args.filtering.now c.loop-place.filtering c.revise_place.new.filtering c.args.steps.now c.loop-place.steps c.revise_place.new.steps
     at (c.loop-place.invariant r.0 r.1) c.revise_place.ensures.counted
 
@@ -78,7 +78,7 @@ loop-place-preserved g c = λ active r.
     let owner = active_of g.F.Filter.meaning c.args.constraint.now in
     let w = c.loop-place.invariant active r in
     let told = c.in_ok-revise_place.ensures in
-    let at = place_at c.scope.result.now (scope owner.con) c.scope-place-end.result.now c.loop-place.place c.index-scope-place.result c.scope.ensures.scope c.scope-place-end.ensures.scope c.loop-place-test.true c.index-scope-place.is in
+    let at = place_at c.scope-scope.result.now (scope owner.con) c.scope-scope.result.now c.loop-place.place c.index-scope-place.result c.scope-scope.ensures.scope c.scope-scope.ensures.scope c.loop-place-test.true c.index-scope-place.is in
     places_more active owner c.loop-place.place c.index-scope-place.result c.args.filtering.now c.loop-place.filtering c.revise_place.new.filtering c.args.steps.now c.loop-place.steps c.revise_place.new.steps
     at w (told.walked active w.revising) (told.revising active w.revising) told.counted
 
@@ -86,7 +86,7 @@ pub returns-clause-walked : goal.returns-clause-walked
 returns-clause-walked g c = λ active r.
     let owner = active_of g.F.Filter.meaning c.args.constraint.now in
     places_done active owner c.loop-place.place c.args.filtering.now c.loop-place.filtering c.args.steps.now c.loop-place.steps
-    (subst (λ (l : List ℕ). length l ≤ c.loop-place.place) c.scope-place-end.ensures.scope (omega (arith, c.loop-place-test.false))) (c.loop-place.invariant active r)
+    (subst (λ (l : List ℕ). length l ≤ c.loop-place.place) c.scope-scope.ensures.scope (omega (arith, c.loop-place-test.false))) (c.loop-place.invariant active r)
 
 pub returns-clause-counted : goal.returns-clause-counted
 returns-clause-counted g c =

@@ -1,46 +1,46 @@
 use Rattle.std.proofs.Common.{◌≡◌, ◌∙◌, ap, refl, subst, arith, insert, true, vec_capacity}
 use Rattle.palm_agenda.specs.Agenda.{Waiting, IsConnected, marked_whole}
-use Rattle.palm_agenda.proofs.cited.Connecting.{connected_at, parted_in}
+use Rattle.palm_agenda.proofs.cited.Connecting.{connected_at}
 use Rattle.palm_agenda.proofs.cited.Keeping.{connected_after, grown_after, pending_with}
 use Rattle.palm_agenda.proofs.agenda.Agenda.connect.Goals as goal
 use Rattle.palm_agenda.proofs.agenda.Agenda.connect.Goals.{After-insert_over}
 
 pub invariant_of-self : goal.invariant_of-self
 invariant_of-self c = (
-  grown_after c.self.inside.connections.items c.self.inside.over.items c.make_room_for.new.over.items c.self.inside.pending.flags c.make_room_for.new.pending.flags _ _ c.self.invariant.0 c.make_room_for.ensures.cids c.make_room_for.ensures.flags c.make_room_for.ensures.grows,
+  grown_after c.self.inside.connections c.self.inside.over.items c.make_room_for.new.over.items c.self.inside.pending.flags c.make_room_for.new.pending.flags _ _ c.self.invariant.0 c.make_room_for.ensures.cids c.make_room_for.ensures.flags c.make_room_for.ensures.grows,
   tt,
   tt,
 )
 
 pub invariant_of-self-in_err-connection : goal.invariant_of-self-in_err-connection
 invariant_of-self-in_err-connection c = (
-  grown_after c.self.inside.connections.items c.self.inside.over.items c.make_room_for.new.over.items c.self.inside.pending.flags c.make_room_for.new.pending.flags _ _ c.self.invariant.0 c.make_room_for.ensures.cids c.make_room_for.ensures.flags c.make_room_for.ensures.grows,
+  grown_after c.self.inside.connections c.self.inside.over.items c.make_room_for.new.over.items c.self.inside.pending.flags c.make_room_for.new.pending.flags _ _ c.self.invariant.0 c.make_room_for.ensures.cids c.make_room_for.ensures.flags c.make_room_for.ensures.grows,
   tt,
   tt,
 )
 
 pub invariant_of-self-in_err-insert : goal.invariant_of-self-in_err-insert
 invariant_of-self-in_err-insert c = (
-  rw c.in_err-insert.ensures.items
-      (grown_after c.self.inside.connections.items c.self.inside.over.items c.make_room_for.new.over.items c.self.inside.pending.flags c.make_room_for.new.pending.flags _ _ c.self.invariant.0 c.make_room_for.ensures.cids c.make_room_for.ensures.flags c.make_room_for.ensures.grows),
+  rw c.in_err-insert.ensures.err
+      (grown_after c.self.inside.connections c.self.inside.over.items c.make_room_for.new.over.items c.self.inside.pending.flags c.make_room_for.new.pending.flags _ _ c.self.invariant.0 c.make_room_for.ensures.cids c.make_room_for.ensures.flags c.make_room_for.ensures.grows),
   tt,
   tt,
 )
 
-is_inserted : (c : After-insert_over) → c.insert.new.self.items ≡ insert c.self.inside.connections.items c.place_of-place.result (marked_whole c.args.cid c.args.scope.now c.args.heeds.items)
+is_inserted : (c : After-insert_over) → c.insert.new.self ≡ insert c.self.inside.connections c.place_of-place.result (marked_whole c.args.cid c.args.scope.now c.args.heeds.items)
 is_inserted c =
-    c.in_ok-insert.ensures.items
-    ∙ ap (insert c.self.inside.connections.items c.place_of-place.result) (c.in_ok-connection.ensures ∙ ap (λ cid. marked_whole cid c.args.scope.now c.args.heeds.items) c.copy.ensures)
+    c.in_ok-insert.ensures.ok
+    ∙ ap (insert c.self.inside.connections c.place_of-place.result) (c.in_ok-connection.ensures ∙ ap (λ cid. marked_whole cid c.args.scope.now c.args.heeds.items) c.copy.ensures)
 
-is_absent : (c : After-insert_over) → IsConnected c.self.inside.connections.items c.args.cid → ⊥
+is_absent : (c : After-insert_over) → IsConnected c.self.inside.connections c.args.cid → ⊥
 is_absent c is = c.requires.new (subst (λ (w : Waiting). IsConnected w.connected c.args.cid) c.self.view_is is)
 
 pub invariant_of-self-2 : goal.invariant_of-self-2
 invariant_of-self-2 c = (
-  connected_after c.self.inside.connections.items c.make_room_for.new.over.items c.insert_over.new.over.items c.make_room_for.new.pending.flags c.insert-2.new.self.flags _ _ c.args.cid c.args.scope.now c.args.heeds.items c.place_of-place.result
-      (grown_after c.self.inside.connections.items c.self.inside.over.items c.make_room_for.new.over.items c.self.inside.pending.flags c.make_room_for.new.pending.flags _ (vec_capacity c.make_room_for.new.shown) c.self.invariant.0 c.make_room_for.ensures.cids c.make_room_for.ensures.flags c.make_room_for.ensures.grows)
-      (parted_in c.deref.result.now c.self.inside.connections.items c.args.cid c.place_of-place.result c.deref.ensures.value c.place_of-place.ensures) (is_absent c)
-      c.insert.new.self.items (is_inserted c) c.insert_over.ensures c.insert-2.ensures (omega (arith, c.in_ok-make_room_for.ensures.shown, c.len-count.ensures, c.self.inside.connections.ok.0)),
+  connected_after c.self.inside.connections c.make_room_for.new.over.items c.insert_over.new.over.items c.make_room_for.new.pending.flags c.insert-2.new.self.flags _ _ c.args.cid c.args.scope.now c.args.heeds.items c.place_of-place.result
+      (grown_after c.self.inside.connections c.self.inside.over.items c.make_room_for.new.over.items c.self.inside.pending.flags c.make_room_for.new.pending.flags _ (vec_capacity c.make_room_for.new.shown) c.self.invariant.0 c.make_room_for.ensures.cids c.make_room_for.ensures.flags c.make_room_for.ensures.grows)
+      c.place_of-place.ensures (is_absent c)
+      c.insert.new.self (is_inserted c) c.insert_over.ensures c.insert-2.ensures (omega (arith, c.in_ok-make_room_for.ensures.shown, c.len-count.ensures.many, c.len-count.ensures.few)),
   tt,
   tt,
 )
@@ -49,15 +49,15 @@ pub returns-clause-connected : goal.returns-clause-connected
 returns-clause-connected c =
     rw (← c.self.view_is)
     (is_inserted c
-    ∙ connected_at c.self.inside.connections.items c.self.invariant.0.formed.rising c.args.cid c.place_of-place.result
-    (parted_in c.deref.result.now c.self.inside.connections.items c.args.cid c.place_of-place.result c.deref.ensures.value c.place_of-place.ensures) (is_absent c) (marked_whole c.args.cid c.args.scope.now c.args.heeds.items) refl)
+    ∙ connected_at c.self.inside.connections c.self.invariant.0.formed.rising c.args.cid c.place_of-place.result
+    c.place_of-place.ensures (is_absent c) (marked_whole c.args.cid c.args.scope.now c.args.heeds.items) refl)
 
 pub returns-clause-pending : goal.returns-clause-pending
 returns-clause-pending c =
     rw (← c.self.view_is)
-    (pending_with c.self.inside.connections.items c.self.inside.over.items c.self.inside.over.items c.self.inside.pending.flags c.insert-2.new.self.flags _ 0 c.args.cid c.args.scope.now c.args.heeds.items c.place_of-place.result c.self.invariant.0
-    (parted_in c.deref.result.now c.self.inside.connections.items c.args.cid c.place_of-place.result c.deref.ensures.value c.place_of-place.ensures) (is_absent c)
-    c.insert.new.self.items (is_inserted c) (c.insert-2.ensures ∙ ap (λ fs. insert fs c.place_of-place.result true) c.make_room_for.ensures.flags))
+    (pending_with c.self.inside.connections c.self.inside.over.items c.self.inside.over.items c.self.inside.pending.flags c.insert-2.new.self.flags _ 0 c.args.cid c.args.scope.now c.args.heeds.items c.place_of-place.result c.self.invariant.0
+    c.place_of-place.ensures (is_absent c)
+    c.insert.new.self (is_inserted c) (c.insert-2.ensures ∙ ap (λ fs. insert fs c.place_of-place.result true) c.make_room_for.ensures.flags))
 
 pub returns-clause-formed : goal.returns-clause-formed
 returns-clause-formed c = (invariant_of-self-2 c).0.formed

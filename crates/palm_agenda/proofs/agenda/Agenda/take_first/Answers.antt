@@ -1,6 +1,6 @@
-use Rattle.std.proofs.Common.{◌≡◌, ◌∙◌, List, [], ap, arith, false, length, slice_get, subst, sym, true}
+use Rattle.std.proofs.Common.{◌≡◌, ◌∙◌, [], ap, arith, false, refl, subst, true}
 use Rattle.std.proofs.lemmas.Option.{slice_get_within}
-use Rattle.palm_agenda.specs.Agenda.{Connected, IsStanding, Waiting, connected_cids}
+use Rattle.palm_agenda.specs.Agenda.{IsStanding, Waiting, connected_cids}
 use Rattle.palm_agenda.specs.Flags.{FlagRow, flagged}
 use Rattle.palm_agenda.proofs.cited.Connecting.{cid_of, named_stands}
 use Rattle.palm_agenda.proofs.cited.Keeping.{first_taken, given_none, none_pending, set_after}
@@ -9,19 +9,18 @@ use Rattle.palm_agenda.proofs.agenda.Agenda.take_first.Goals as goal
 pub returns-in_err-place-clause-none : goal.returns-in_err-place-clause-none
 returns-in_err-place-clause-none c =
     given_none _
-    (subst (λ (w : Waiting). w.pending ≡ []) c.self.view_is (none_pending c.self.inside.connections.items c.self.inside.over.items c.self.inside.pending.flags _ c.self.invariant.0 c.in_err-place.ensures.0))
-    (ap (λ (f : FlagRow). record { connected = c.self.inside.connections.items; pending = flagged (connected_cids c.self.inside.connections.items) f.flags }) c.in_err-place.ensures.1 ∙ c.self.view_is)
+    (subst (λ (w : Waiting). w.pending ≡ []) c.self.view_is (none_pending c.self.inside.connections c.self.inside.over.items c.self.inside.pending.flags _ c.self.invariant.0 c.in_err-place.ensures.0))
+    (ap (λ (f : FlagRow). record { connected = c.self.inside.connections; pending = flagged (connected_cids c.self.inside.connections) f.flags }) c.in_err-place.ensures.1 ∙ c.self.view_is)
 
 pub cid_at-cid-requires : goal.cid_at-cid-requires
 cid_at-cid-requires c =
     let within = slice_get_within c.self.inside.pending.flags c.in_ok-place.place true c.in_ok-place.ensures.0.raised in
     let same = c.self.invariant.0.flag_each in
-    let many = ap (λ (ds : List Connected). length ds) c.deref.ensures.value in
     omega arith
 
 pub invariant_of-self-2 : goal.invariant_of-self-2
 invariant_of-self-2 c = (
-  set_after c.self.inside.connections.items c.self.inside.over.items c.self.inside.pending.flags c.lower_first.new.self.flags _ _ c.in_ok-place.place false c.self.invariant.0 c.in_ok-place.ensures.1 (omega arith),
+  set_after c.self.inside.connections c.self.inside.over.items c.self.inside.pending.flags c.lower_first.new.self.flags _ _ c.in_ok-place.place false c.self.invariant.0 c.in_ok-place.ensures.1 (omega arith),
   tt,
   tt,
 )
@@ -29,11 +28,10 @@ invariant_of-self-2 c = (
 pub returns-clause-some : goal.returns-clause-some
 returns-clause-some c =
     rw (← c.self.view_is)
-    (first_taken c.self.inside.connections.items c.self.inside.over.items c.self.inside.pending.flags c.lower_first.new.self.flags _ c.self.invariant.0 c.in_ok-place.place c.in_ok-place.ensures.0 c.in_ok-place.ensures.1
-    c.deref.result.now c.deref.ensures.value c.cid_at-cid.result c.cid_at-cid.ensures)
+    (first_taken c.self.inside.connections c.self.inside.over.items c.self.inside.pending.flags c.lower_first.new.self.flags _ c.self.invariant.0 c.in_ok-place.place c.in_ok-place.ensures.0 c.in_ok-place.ensures.1
+    c.self.inside.connections refl c.cid_at-cid.result c.cid_at-cid.ensures)
 
 pub returns-clause-standing : goal.returns-clause-standing
 returns-clause-standing c =
     subst (λ (w : Waiting). IsStanding w.connected (record { cid = c.cid_at-cid.result; at = c.in_ok-place.place })) c.self.view_is
-    (named_stands cid_of c.self.inside.connections.items c.in_ok-place.place c.cid_at-cid.result
-    (ap (λ (ds : List Connected). slice_get (connected_cids ds) c.in_ok-place.place) (sym c.deref.ensures.value) ∙ c.cid_at-cid.ensures))
+    (named_stands cid_of c.self.inside.connections c.in_ok-place.place c.cid_at-cid.result c.cid_at-cid.ensures)

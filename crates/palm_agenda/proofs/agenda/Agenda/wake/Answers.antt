@@ -5,11 +5,11 @@ use Rattle.palm_agenda.specs.Flags.{flagged}
 use Rattle.palm_agenda.proofs.Woken.{woken_already}
 use Rattle.palm_agenda.proofs.agenda.Agenda.wake.Goals as goal
 
-already : (c : goal.Then-is_noted) → (c.self.inside.connections.items ≡ map (mark_others c.args.var c.args.loss) c.self.inside.connections.items)
-    × ((d : Cid) → Contains (flagged (connected_cids c.self.inside.connections.items) c.self.inside.pending.flags) d
-    ↔ (Contains (flagged (connected_cids c.self.inside.connections.items) c.self.inside.pending.flags) d ⊎ IsOver c.self.inside.connections.items c.args.var d))
+already : (c : goal.Then-is_noted) → (c.self.inside.connections ≡ map (mark_others c.args.var c.args.loss) c.self.inside.connections)
+    × ((d : Cid) → Contains (flagged (connected_cids c.self.inside.connections) c.self.inside.pending.flags) d
+    ↔ (Contains (flagged (connected_cids c.self.inside.connections) c.self.inside.pending.flags) d ⊎ IsOver c.self.inside.connections c.args.var d))
 already c =
-    woken_already c.self.inside.woken c.args.var c.args.loss c.self.inside.connections.items (flagged (connected_cids c.self.inside.connections.items) c.self.inside.pending.flags) c.self.invariant.2
+    woken_already c.self.inside.woken c.args.var c.args.loss c.self.inside.connections (flagged (connected_cids c.self.inside.connections) c.self.inside.pending.flags) c.self.invariant.2
     (c.is_noted.ensures c.if-is_noted.true)
 
 pub returns-then-is_noted-clause-connected : goal.returns-then-is_noted-clause-connected
