@@ -128,8 +128,10 @@ pub fn collect_numbers(
     ensures { OnOk result (numbers.new.items ≡ numbers_at steps.now log.now.log place) }
 {
     numbers.clear();
-    for index in 0..log.reasons_at(place) {
-        numbers.push(number_at(log, steps, log.reason_at(place, index)))?;
+    let mut pairs = Vec::new(*numbers.allocator());
+    log.reasons(place, &mut pairs)?;
+    for pair in pairs.as_slice() {
+        numbers.push(number_at(log, steps, pair.copy()))?;
     }
     numbers.sort_unstable();
     numbers.dedup();
