@@ -1,7 +1,6 @@
 pub mod Built
 pub mod cited
 pub mod Cites
-pub mod Counting
 pub mod Declaring
 pub mod Made
 pub mod Moving

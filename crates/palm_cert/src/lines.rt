@@ -20,8 +20,7 @@ pub fn put_added(book: &Book, entry: &BookCon, out: &mut Vec<u8>) -> Result<(), 
     put_spaced_name(&entry.name, out)?;
     put_text(" : ", out)?;
     print_con(book, &entry.con, out)?;
-    put_text("\n", out)?;
-    Ok(())
+    put_text("\n", out)
 }
 
 /// ` from K K`, where there is a number
@@ -63,8 +62,7 @@ pub fn put_step(
     put_text(" by", out)?;
     put_spaced_name(book.constraint_name(by), out)?;
     put_from(numbers, out)?;
-    put_text("\n", out)?;
-    Ok(())
+    put_text("\n", out)
 }
 
 /// `claim NAME VALUE` or `claim conflict NAME`

@@ -1,9 +1,8 @@
 //! What is kept of a certificate besides what it lists: how far it has come, and the pairs that its steps proved.
 ghost use Rattle.std.specs.Prelude.{All, IfOk, OnOk};
 ghost use Rattle.palm_base.specs.Tells.{Tells};
-ghost use Rattle.palm_book.specs.Book.{Contents};
-ghost use Rattle.palm_check.specs.Kept.{HasDeclared, IsKept, TakesPhrase, said};
-ghost use Rattle.palm_claim.specs.Draft.{IsOpen, Leads, MayFollow};
+ghost use Rattle.palm_check.specs.Kept.{IsKept, TakesPhrase, said};
+ghost use Rattle.palm_claim.specs.Draft.{IsOpen, MayFollow};
 ghost use Rattle.palm_claim.specs.Statement.{IsStepNumber};
 ghost use Rattle.palm_claim.specs.declared.statement.CertificatePhrase.TheVariants as phrases;
 
@@ -106,7 +105,10 @@ impl Body for CertificateBody {
             }
             CertificatePhrase::ConflictClaim(name) => Ok(self.claim_conflict(listed, &name)),
             CertificatePhrase::End => {
-                self.close();
+                let stage = mem::replace(&mut self.stage, Stage::Unopened);
+                if let Stage::Claimed(claim) = stage {
+                    self.stage = Stage::Closed(claim);
+                }
                 Ok(None)
             }
         }
@@ -116,10 +118,7 @@ impl Body for CertificateBody {
         let CertificateBody { stage, .. } = self;
         match stage {
             Stage::Closed(claim) => Verdict::Accepted(Proved { claim, book }),
-            _ => Verdict::Refused {
-                line,
-                cause: Cause::NotReached,
-            },
+            _ => Self::refused(line, Cause::NotReached),
         }
     }
 
@@ -189,18 +188,6 @@ impl CertificateBody {
                 None
             }
             Err(cause) => Some(cause),
-        }
-    }
-
-    /// Takes the end.
-    fn close(&mut self)
-        requires stands { MayFollow self.old.stage phrases.End }
-        ensures leads { (book : Contents) → Leads (said book self.old) phrases.End (said book self.new) }
-        ensures kept { (book : Contents) → HasDeclared book self.old → HasDeclared book self.new }
-    {
-        let stage = mem::replace(&mut self.stage, Stage::Unopened);
-        if let Stage::Claimed(claim) = stage {
-            self.stage = Stage::Closed(claim);
         }
     }
 }

@@ -7,7 +7,7 @@ ghost use Rattle.palm_claim.specs.Statement.{IsStepNumber};
 ghost use Rattle.palm_claim.specs.declared.ground.Ground.TheVariants as Ground;
 ghost use Rattle.palm_model.specs.Domains.{Has};
 ghost use Rattle.proof_check.specs.Kept.{AssumesOrNot, IsReasoned, IsKept, TakesGround, TakesPhrase, said};
-ghost use Rattle.proof_text.specs.Draft.{Leads, MayFollow, with_lemma, with_wipe};
+ghost use Rattle.proof_text.specs.Draft.{MayFollow, with_lemma, with_wipe};
 ghost use Rattle.proof_text.specs.Statement.{IsGroundInRange, IsLemmaNumber};
 ghost use Rattle.proof_text.specs.declared.statement.ProofPhrase.TheVariants as phrases;
 ghost use Rattle.proof_text.specs.declared.statement.Stage.TheVariants as Stage;
@@ -128,7 +128,10 @@ impl Body for ProofBody {
             ProofPhrase::Wipe(name) => self.wipe(listed, &name),
             ProofPhrase::Users(names) => self.tell(alloc, listed, names.as_slice()),
             ProofPhrase::End => {
-                self.close();
+                let stage = mem::replace(&mut self.stage, Stage::Unopened);
+                if let Stage::Told(users) = stage {
+                    self.stage = Stage::Closed(users);
+                }
                 Ok(None)
             }
         }
@@ -138,10 +141,7 @@ impl Body for ProofBody {
         let ProofBody { stage, .. } = self;
         match stage {
             Stage::Closed(users) => ProofVerdict::Accepted { book, users },
-            _ => ProofVerdict::Refused {
-                line,
-                cause: Cause::NotReached,
-            },
+            _ => Self::refused(line, Cause::NotReached),
         }
     }
 
@@ -351,18 +351,6 @@ impl ProofBody {
         }
         self.stage = Stage::Told(marked_users(alloc, &listed.book, &marks)?);
         Ok(None)
-    }
-
-    /// Takes the end.
-    fn close(&mut self)
-        requires stands { MayFollow self.old.stage phrases.End }
-        ensures leads { (book : Contents) → Leads (said book self.old) phrases.End (said book self.new) }
-        ensures kept { (book : Contents) → IsReasoned book self.old → IsReasoned book self.new }
-    {
-        let stage = mem::replace(&mut self.stage, Stage::Unopened);
-        if let Stage::Told(users) = stage {
-            self.stage = Stage::Closed(users);
-        }
     }
 }
 

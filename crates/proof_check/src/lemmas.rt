@@ -1,8 +1,7 @@
 //! Lemmas: one that has no step yet, a second one, and whether a pair stands by one.
-ghost use Rattle.std.specs.Prelude.{◌≡◌, Some, Contains, IfOk};
+ghost use Rattle.std.specs.Prelude.{◌≡◌, IfOk};
 ghost use Rattle.palm_base.specs.Tells.{Tells};
-ghost use Rattle.palm_base.specs.declared.terms.Pair.{Pair as PairTerm};
-ghost use Rattle.proof_check.specs.Kept.{IsByOthers, assumed_at};
+ghost use Rattle.proof_check.specs.Kept.{IsByOthers};
 ghost use Rattle.proof_text.specs.Draft.{unproved};
 
 use crate::assumed::is_assumed;
@@ -26,28 +25,19 @@ pub fn unproved_lemma(alloc: Global, pairs: PairList) -> Lemma
 pub fn copy_lemma(lemma: &Lemma) -> Result<Lemma, NoMemory>
     ensures { IfOk result (λ copy. copy ≡ lemma.now) }
 {
-    let pairs = lemma.pairs.copy()?;
-    let constraints = lemma.constraints.copy()?;
-    let lemmas = lemma.lemmas.copy()?;
     Ok(Lemma {
-        pairs,
-        constraints,
-        lemmas,
+        pairs: lemma.pairs.copy()?,
+        constraints: lemma.constraints.copy()?,
+        lemmas: lemma.lemmas.copy()?,
     })
-}
-
-/// Whether all of these pairs but this one are assumed.
-fn are_others_assumed(assumed: &[Option<Value>], pairs: &[Pair], pair: &Pair) -> bool
-    ensures { Tells result ((q : PairTerm) → Contains pairs.now q → (q ≡ pair.now → ⊥) → assumed_at assumed.now q.var ≡ Some q.value) }
-{
-    pairs
-        .iter()
-        .all(|p| p.is_same(pair) || is_assumed(assumed, p))
 }
 
 /// Whether the pair is one of these, and all others of them are assumed.
 pub fn is_by_others(assumed: &[Option<Value>], pairs: &[Pair], pair: &Pair) -> bool
     ensures { Tells result (IsByOthers assumed.now pairs.now pair.now) }
 {
-    is_among(pairs, pair) && are_others_assumed(assumed, pairs, pair)
+    is_among(pairs, pair)
+        && pairs
+            .iter()
+            .all(|p| p.is_same(pair) || is_assumed(assumed, p))
 }

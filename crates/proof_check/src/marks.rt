@@ -1,6 +1,6 @@
 //! Which constraints a lemma uses: one pass over the lemmas before it, from the last to the first. A lemma names only
 //! lemmas before it, so when the pass comes to a lemma it is known whether that one is reached.
-ghost use Rattle.std.specs.Prelude.{◌≡◌, ◌+◌, ◌^◌, ◌<◌, ◌≤◌, false, length, replicate, All, Contains, IfOk};
+ghost use Rattle.std.specs.Prelude.{◌≡◌, ◌+◌, ◌<◌, ◌≤◌, length, All, Contains, IfOk};
 ghost use Rattle.palm_book.specs.declared.limits.TheConstants.{MOST_CONSTRAINTS};
 ghost use Rattle.proof_check.specs.Kept.{AreBehind, IsBehind};
 ghost use Rattle.proof_text.specs.declared.lemma.Lemma.{Lemma as LemmaTerm};
@@ -15,15 +15,6 @@ use std::alloc::Global;
 pub struct Marks {
     pub lemmas: Vec<bool>,
     pub constraints: Vec<bool>,
-}
-
-/// Marks for the numbers up to this one, none of them set.
-fn unmarked(alloc: Global, most: usize) -> Result<Vec<bool>, NoMemory>
-    requires { most < 2 ^ 63 }
-    ensures { IfOk result (λ marks. marks.items ≡ replicate (most + 1) false) }
-{
-    let marks = vec![in alloc; false; most + 1]?;
-    Ok(marks)
 }
 
 /// Marks a place.
@@ -81,9 +72,11 @@ pub fn usage(
     requires last { IsBehind (most + 1) (length lemmas.now) lemma.now }
     ensures { IfOk result (λ marks. IsUsage lemmas.now lemma.now marks.items) }
 {
+    let reached = vec![in alloc; false; lemmas.len() + 1]?;
+    let constraints = vec![in alloc; false; most + 1]?;
     let mut marks = Marks {
-        lemmas: unmarked(alloc, lemmas.len())?,
-        constraints: unmarked(alloc, most)?,
+        lemmas: reached,
+        constraints,
     };
     mark_named(&mut marks, lemma);
     let mut place = lemmas.len();

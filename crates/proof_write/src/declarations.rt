@@ -17,16 +17,10 @@ pub(crate) fn write_declarations<K: Sink>(
 ) -> Result<(), WriteStop>
     ensures { Writes (K.state out.old) (K.state out.new) (declarations book.now) result }
 {
-    write_lines(book, &mut Writer::new(out, buffer))
-}
-
-/// Writes the lines of these.
-fn write_lines<K: Sink>(book: &Book, writer: &mut Writer<'_, K>) -> Result<(), WriteStop>
-    ensures { Wrote K.state writer.old writer.new (declarations book.now) result }
-{
+    let mut writer = Writer::new(out, buffer);
     writer.text(b"palm-proof 1\n")?;
     writer.variables(book)?;
-    write_constraints(book, writer)
+    write_constraints(book, &mut writer)
 }
 
 /// Writes the active constraints.

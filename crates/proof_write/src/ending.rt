@@ -1,8 +1,7 @@
 //! Writing how a run ends.
-ghost use Rattle.std.specs.Prelude.{◌≡◌, ◌<◌, ◌++◌, ℕ, List, All, None, length};
+ghost use Rattle.std.specs.Prelude.{ℕ, List, All, length};
 ghost use Rattle.palm_base.specs.declared.terms.Pair.{Pair as PairTerm};
 ghost use Rattle.palm_book.specs.Book.{IsUser};
-ghost use Rattle.palm_lang.specs.Reply.{fixed_text, found_line, spent_line};
 ghost use Rattle.palm_lang.specs.Writer.{Wrote};
 ghost use Rattle.palm_lang.specs.Writing.{Writes};
 ghost use Rattle.palm_model.specs.State.{HasEmpty, IsEmptyAt, present};
@@ -14,9 +13,8 @@ ghost use Rattle.proof_write.specs.Fitting.{FitsBook};
 ghost use Rattle.proof_write.specs.Numbers.{AreNumbers};
 
 use crate::lemma::write_text_of_lemma;
-use crate::notes::{Notes, StepMemory};
-use crate::numbers::LemmaNumbers;
-use palm_base::{CidList, Sink, ValueList};
+use crate::notes::Notes;
+use palm_base::{CidList, Sink};
 use palm_engine::Engine;
 use palm_filter::Filter;
 use palm_lang::{Book, Fixed, Lead, WriteStop, Writer};
@@ -38,41 +36,19 @@ pub(crate) fn write_end<F: Filter, K: Sink>(
     ensures { (undone : List PairTerm) → AreNumbers undone notes.old.numbers → (text : List ℕ)
         × Concludes book.now undone (search_state engine.now.state search.now) end.now text × Writes (K.state out.old) (K.state out.new) text result }
 {
-    let mut writer = Writer::new(out, buffer);
-    write_ending(
-        engine,
-        search,
-        book,
-        end,
-        &notes.numbers,
-        &mut notes.memory,
-        &mut writer,
-    )
-}
-
-/// Writes how the run ends, by the numbers of the lemmas so far.
-fn write_ending<F: Filter, K: Sink>(
-    engine: &Engine<F>,
-    search: &Search,
-    book: &Book,
-    end: &SearchEnd,
-    lemmas: &LemmaNumbers,
-    memory: &mut StepMemory,
-    writer: &mut Writer<'_, K>,
-) -> Result<(), WriteStop>
-    requires fits { FitsBook book.now (search_state engine.now.state search.now) }
-    requires ends { (budget : ℕ) × EndsWith budget (length search.now.journal) engine.now.state end.now }
-    ensures { (undone : List PairTerm) → AreNumbers undone lemmas.now → (text : List ℕ)
-        × Concludes book.now undone (search_state engine.now.state search.now) end.now text × Wrote K.state writer.old writer.new text result }
-{
     // What holds of every engine is known once its store is read.
     let _ = engine.store();
+    let mut writer = Writer::new(out, buffer);
     match end {
-        SearchEnd::NoSolution(users) => {
-            write_none(engine, search, book, users, lemmas, memory, writer)
+        SearchEnd::NoSolution(users) => write_none(engine, search, book, users, notes, &mut writer),
+        SearchEnd::Found(values) => {
+            writer.found(book, values)?;
+            writer.word(Fixed::End)
         }
-        SearchEnd::Found(values) => write_found(book, values, writer),
-        SearchEnd::Spent(turns) => write_spent(*turns, writer),
+        SearchEnd::Spent(turns) => {
+            writer.spent(*turns, None)?;
+            writer.word(Fixed::End)
+        }
     }
 }
 
@@ -82,38 +58,16 @@ fn write_none<F: Filter, K: Sink>(
     search: &Search,
     book: &Book,
     users: &CidList,
-    lemmas: &LemmaNumbers,
-    memory: &mut StepMemory,
+    notes: &mut Notes,
     writer: &mut Writer<'_, K>,
 ) -> Result<(), WriteStop>
     requires fits { FitsBook book.now (search_state engine.now.state search.now) }
     requires empty { HasEmpty (present engine.now.state) }
     requires users { All (IsUser book.now) users.now }
-    ensures { (undone : List PairTerm) (x : ℕ) → AreNumbers undone lemmas.now
+    ensures { (undone : List PairTerm) (x : ℕ) → AreNumbers undone notes.old.numbers
         → IsEmptyAt (present engine.now.state) x → Wrote K.state writer.old writer.new (none_text book.now undone engine.now.state x users.now) result }
 {
-    write_text_of_lemma(engine, search, book, &[], lemmas, memory, writer)?;
+    write_text_of_lemma(engine, search, book, &[], notes, writer)?;
     writer.names(book, Lead::NoSolution, users)?;
-    writer.word(Fixed::End)
-}
-
-/// Writes a value for each variable.
-fn write_found<K: Sink>(
-    book: &Book,
-    values: &ValueList,
-    writer: &mut Writer<'_, K>,
-) -> Result<(), WriteStop>
-    requires { length values.now ≡ length book.now.variables }
-    ensures { Wrote K.state writer.old writer.new (found_line book.now.variables values.now ++ fixed_text Fixed.End) result }
-{
-    writer.found(book, values)?;
-    writer.word(Fixed::End)
-}
-
-/// Writes how many turns were taken.
-fn write_spent<K: Sink>(turns: u64, writer: &mut Writer<'_, K>) -> Result<(), WriteStop>
-    ensures { Wrote K.state writer.old writer.new (spent_line turns None ++ fixed_text Fixed.End) result }
-{
-    writer.spent(turns, None)?;
     writer.word(Fixed::End)
 }

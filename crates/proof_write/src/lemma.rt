@@ -11,15 +11,15 @@ ghost use Rattle.proof_write.specs.Fitting.{FitsBook, IsWritable};
 ghost use Rattle.proof_write.specs.Lines.{assumed_line, given_line};
 ghost use Rattle.proof_write.specs.Numbers.{AreNumbers};
 
-use crate::lines::{put_assumed, put_given, put_lemma, put_wipe};
-use crate::notes::{Notes, StepMemory};
+use crate::lines::{put_assumed, put_given, put_pairs, put_wipe};
+use crate::notes::Notes;
 use crate::numbers::LemmaNumbers;
 use palm_base::{Cid, Pair, Sink, Var};
 use palm_cert::{collect_numbers, write_removal};
 use palm_engine::Engine;
 use palm_explain::ExplainStore;
 use palm_filter::Filter;
-use palm_lang::{Book, WriteStop, Writer, write_line};
+use palm_lang::{Book, WriteStop, Writer, put_text, write_line};
 use palm_search::Search;
 
 /// Writes the lemma of the emptied variable: of the decisions that are held, and of the removals that it needs. The numbers
@@ -39,15 +39,13 @@ pub(crate) fn write_lemma<F: Filter, K: Sink>(
         → Writes (K.state out.old) (K.state out.new) (text_of_lemma book.now undone (held_decisions search.now.decisions held.now) (wiped_by engine.now.state x) x) result }
     ensures numbers { notes.new.numbers ≡ notes.old.numbers }
 {
-    let mut writer = Writer::new(out, buffer);
     write_text_of_lemma(
         engine,
         search,
         book,
         held,
-        &notes.numbers,
-        &mut notes.memory,
-        &mut writer,
+        notes,
+        &mut Writer::new(out, buffer),
     )
 }
 
@@ -57,14 +55,14 @@ pub(crate) fn write_text_of_lemma<F: Filter, K: Sink>(
     search: &Search,
     book: &Book,
     held: &[Cid],
-    lemmas: &LemmaNumbers,
-    memory: &mut StepMemory,
+    notes: &mut Notes,
     writer: &mut Writer<'_, K>,
 ) -> Result<(), WriteStop>
     requires fits { FitsBook book.now (search_state engine.now.state search.now) }
     requires empty { HasEmpty (present engine.now.state) }
-    ensures { (undone : List PairTerm) (x : ℕ) → AreNumbers undone lemmas.now → IsEmptyAt (present engine.now.state) x
+    ensures lemma { (undone : List PairTerm) (x : ℕ) → AreNumbers undone notes.old.numbers → IsEmptyAt (present engine.now.state) x
         → Wrote K.state writer.old writer.new (text_of_lemma book.now undone (held_decisions search.now.decisions held.now) (wiped_by engine.now.state x) x) result }
+    ensures numbers { notes.new.numbers ≡ notes.old.numbers }
 {
     // What holds of every engine and of every log is known once they are read.
     let _ = engine.store();
@@ -74,19 +72,19 @@ pub(crate) fn write_text_of_lemma<F: Filter, K: Sink>(
         unreachable!();
     };
     write_front(book, search.decisions(), held, writer)?;
-    log.needed(var, book.initial(var).as_slice(), &mut memory.steps)?;
+    log.needed(var, book.initial(var).as_slice(), &mut notes.steps)?;
     write_steps(
         book,
         log,
-        &memory.steps,
-        lemmas,
-        &mut memory.reasons,
+        &notes.steps,
+        &notes.numbers,
+        &mut notes.reasons,
         writer,
     )?;
     write_wipe(book, var, writer)
 }
 
-/// Writes the first line of a lemma.
+/// Writes `lemma NAME=VALUE NAME=VALUE`, with the decisions that are held.
 fn write_front<K: Sink>(
     book: &Book,
     decisions: &[Pair],
@@ -96,7 +94,11 @@ fn write_front<K: Sink>(
     requires { All (λ p. p.var < length book.now.variables) decisions.now }
     ensures { Wrote K.state writer.old writer.new (lemma_line book.now.variables (held_decisions decisions.now held.now)) result }
 {
-    write_line!(writer, put_lemma(book, decisions, held))
+    writer.buffer.clear();
+    put_text("lemma", writer.buffer)?;
+    put_pairs(book, decisions, held, writer.buffer)?;
+    put_text("\n", writer.buffer)?;
+    writer.line()
 }
 
 /// Writes the steps, in the order of the log, the reasons of one after another in the same memory.

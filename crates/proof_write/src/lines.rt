@@ -1,7 +1,7 @@
-//! The lines of a proof at the end of what was written. Want of memory may leave a part of one there.
+//! Parts of a proof at the end of what was written. Want of memory may leave a part of one there.
 ghost use Rattle.std.specs.Prelude.{◌≡◌, ◌<◌, ◌++◌, All, codes, length, map, OnOk};
 ghost use Rattle.palm_read.specs.Words.{after_spaces};
-ghost use Rattle.proof_run.specs.Lemma.{held_decisions, lemma_line, pair_word, wipe_line};
+ghost use Rattle.proof_run.specs.Lemma.{held_decisions, pair_word, wipe_line};
 ghost use Rattle.proof_write.specs.Lines.{assumed_line, given_line};
 
 use palm_base::{Cid, NoMemory, Pair, Var, push_int};
@@ -19,7 +19,7 @@ fn put_pair(book: &Book, pair: &Pair, out: &mut Vec<u8>) -> Result<(), NoMemory>
 }
 
 /// ` NAME=VALUE NAME=VALUE`, of the decisions that are held.
-fn put_pairs(
+pub(crate) fn put_pairs(
     book: &Book,
     decisions: &[Pair],
     held: &[Cid],
@@ -33,22 +33,6 @@ fn put_pairs(
             put_pair(book, pair, out)?;
         }
     }
-    Ok(())
-}
-
-/// `lemma NAME=VALUE NAME=VALUE`, with the decisions that are held
-pub(crate) fn put_lemma(
-    book: &Book,
-    decisions: &[Pair],
-    held: &[Cid],
-    out: &mut Vec<u8>,
-) -> Result<(), NoMemory>
-    requires { All (λ p. p.var < length book.now.variables) decisions.now }
-    ensures { OnOk result (out.new.items ≡ out.old.items ++ lemma_line book.now.variables (held_decisions decisions.now held.now)) }
-{
-    put_text("lemma", out)?;
-    put_pairs(book, decisions, held, out)?;
-    put_text("\n", out)?;
     Ok(())
 }
 

@@ -10,18 +10,11 @@ use palm_base::NoMemory;
 use palm_search::Turn;
 use std::alloc::Global;
 
-/// The numbers of the lemmas, and memory for one lemma after another.
+/// The numbers of the lemmas, and memory for the steps of one lemma after another.
 #[derive(Drop)]
 pub(crate) struct Notes {
     /// Which lemma gave which negation.
     pub(crate) numbers: LemmaNumbers,
-    /// The steps of the lemma.
-    pub(crate) memory: StepMemory,
-}
-
-/// Memory for the steps of one lemma after another.
-#[derive(Drop)]
-pub(crate) struct StepMemory {
     /// The places in the log of the removals that are steps of the lemma, rising: the first step has the number 1.
     pub(crate) steps: Vec<usize>,
     /// The numbers of the steps that proved the reasons of one.
@@ -35,10 +28,8 @@ impl Notes {
     {
         Notes {
             numbers: LemmaNumbers::new(alloc),
-            memory: StepMemory {
-                steps: Vec::new(alloc),
-                reasons: Vec::new(alloc),
-            },
+            steps: Vec::new(alloc),
+            reasons: Vec::new(alloc),
         }
     }
 

@@ -6,10 +6,8 @@ ghost use Rattle.palm_engine.specs.Following.{OrderAnswers, OrderFollows};
 ghost use Rattle.palm_lang.specs.Writing.{IsCounted};
 ghost use Rattle.palm_base.specs.Streams.{IsSameSink};
 ghost use Rattle.palm_events.specs.Scoped.{HasScopedReasons};
-ghost use Rattle.palm_model.specs.State.{IsValid};
 ghost use Rattle.palm_search.specs.Breaking.{BreaksOff};
 ghost use Rattle.palm_search.specs.Following.{GuideFollows};
-ghost use Rattle.palm_search.specs.Kept.{HasDecisions};
 ghost use Rattle.palm_search.specs.Leaves.{Counts, Leaves, Lent};
 ghost use Rattle.palm_search.specs.Machine.{GivesBack, HasRunOn, state_of};
 ghost use Rattle.palm_search.specs.Stopping.{BreaksOffBy, GuideStops, IsCutOffBy};
@@ -161,9 +159,7 @@ fn run<F: Filter, G: Guide, O: Order, K: Sink, L: Ledger>(
                 )?;
                 return Ok(end);
             }
-            Next::Decide => {
-                machine.decide()?;
-            }
+            Next::Decide => _ = machine.decide()?,
             Next::Undo(conflict) => {
                 write_lemma(
                     machine.engine,

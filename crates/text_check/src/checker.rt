@@ -1,25 +1,21 @@
 //! What is kept of a text: what it lists, and the body of its family.
-ghost use Rattle.std.specs.Prelude.{◌≡◌, ◌≤◌, length, IfOk, OnOk};
+ghost use Rattle.std.specs.Prelude.{◌≡◌, IfOk, OnOk};
 ghost use Rattle.palm_base.specs.Tells.{Tells};
-ghost use Rattle.palm_book.specs.Book.{AreValues, HasConstraint, HasVariable, with_listed, with_variable};
 ghost use Rattle.palm_claim.specs.Own.{family_of};
 ghost use Rattle.palm_claim.specs.Taking.{TakesLine, TakesStatement};
 ghost use Rattle.palm_claim.specs.declared.statement.Statement.TheVariants as statements;
-ghost use Rattle.palm_model.specs.Constraint.{IsWellFormed};
 ghost use Rattle.palm_read.specs.Limits.{IsBeyond};
-ghost use Rattle.palm_read.specs.Name.{IsNameText};
 ghost use Rattle.palm_read.specs.Sound.{IsSound};
 ghost use Rattle.palm_read.specs.declared.line.Line.TheVariants.{Add, Var};
 ghost use Rattle.text_check.specs.Kept.{IsChecker, draft_of};
 ghost use Rattle.text_check.specs.Reading.{IsBeyondAlone, IsSoundStatement};
 
 use crate::body::Body;
-use crate::statements::{Reading, read_statement};
-use palm_base::{NoMemory, ValueList};
+use crate::statements::read_statement;
+use palm_base::NoMemory;
 use palm_book::{MOST_CONSTRAINTS, MOST_VARIABLES, Unresolved, values_in};
 use palm_claim::{Cause, Statement};
 use palm_listed::Listed;
-use palm_model::Con;
 use palm_read::{DomainText, Name, Shape};
 use std::alloc::Global;
 
@@ -50,19 +46,13 @@ impl<B: Body> Checker<B> {
         ensures takes { IfOk result (λ cause. TakesLine (family_of B.own) (draft_of B.draft self.old) line.now cause (draft_of B.draft self.new)) }
         ensures kept { OnOk result (IsChecker B.keeps self.new) }
     {
-        let Some(
-            Reading {
-                statement,
-                is_beyond,
-            },
-        ) = read_statement::<B>(self.alloc, line)?
-        else {
+        let Some(reading) = read_statement::<B>(self.alloc, line)? else {
             return Ok(Some(Cause::Malformed));
         };
-        if !self.body.may_stand(&statement) {
+        if !self.body.may_stand(&reading.statement) {
             return Ok(Some(Cause::Malformed));
         }
-        self.hear(statement, is_beyond)
+        self.hear(reading.statement, reading.is_beyond)
     }
 
     /// Takes what a line says that may stand there, or answers its first cause. It is told whether the line breaks a limit
@@ -109,23 +99,9 @@ impl<B: Body> Checker<B> {
             return Ok(Some(Cause::Beyond));
         }
         let values = values_in(self.alloc, domain)?;
-        self.add_variable(name, values)?;
-        Ok(None)
-    }
-
-    /// Adds a variable.
-    fn add_variable(&mut self, name: Name, values: ValueList) -> Result<(), NoMemory>
-        requires kept { IsChecker B.keeps self.old }
-        requires text { IsNameText name }
-        requires fresh { HasVariable self.old.listed.book name → ⊥ }
-        requires values { AreValues values }
-        requires room { MOST_VARIABLES ≤ length self.old.listed.book.variables → ⊥ }
-        ensures ok { OnOk result (draft_of B.draft self.new ≡ B.own.declared (draft_of B.draft self.old) (with_variable self.old.listed.book name values)) }
-        ensures kept { OnOk result (IsChecker B.keeps self.new) }
-    {
         self.listed.declare(name, values)?;
         self.body.declared()?;
-        Ok(())
+        Ok(None)
     }
 
     /// Takes a constraint.
@@ -150,23 +126,9 @@ impl<B: Body> Checker<B> {
         if is_beyond || self.listed.book.constraints() >= MOST_CONSTRAINTS {
             return Ok(Some(Cause::Beyond));
         }
-        self.add_constraint(name, con)?;
-        Ok(None)
-    }
-
-    /// Adds a constraint under the next number.
-    fn add_constraint(&mut self, name: Name, con: Con) -> Result<(), NoMemory>
-        requires kept { IsChecker B.keeps self.old }
-        requires text { IsNameText name }
-        requires fresh { HasConstraint self.old.listed.book name → ⊥ }
-        requires formed { IsWellFormed (length self.old.listed.book.variables) con }
-        requires room { MOST_CONSTRAINTS ≤ length self.old.listed.book.constraints → ⊥ }
-        ensures ok { OnOk result (draft_of B.draft self.new ≡ B.own.listed (draft_of B.draft self.old) (with_listed self.old.listed.book name con)) }
-        ensures kept { OnOk result (IsChecker B.keeps self.new) }
-    {
         self.listed.list(name, con)?;
         self.body.listed();
-        Ok(())
+        Ok(None)
     }
 
     /// The verdict where no line is left, and a next one would have this number.

@@ -1,12 +1,10 @@
 //! What lines say.
-ghost use Rattle.std.specs.Prelude.{◌≡◌, true, false, IfOk, IfSome, option_map};
+ghost use Rattle.std.specs.Prelude.{◌≡◌, true, IfOk, IfSome, option_map};
 ghost use Rattle.palm_base.specs.Tells.{Tells};
 ghost use Rattle.palm_claim.specs.Phrases.{begins_phrase, of_line, phrase_of};
 ghost use Rattle.palm_read.specs.Limits.{IsBeyond};
 ghost use Rattle.palm_read.specs.Reader.Held.{GivesAll};
-ghost use Rattle.palm_read.specs.Reading.{IsRefusedBy};
 ghost use Rattle.palm_read.specs.Token.{tokens_of};
-ghost use Rattle.palm_read.specs.declared.mode.Mode.TheVariants as Mode;
 ghost use Rattle.text_check.specs.Reading.{IsBeyondAlone, SaysOrNot};
 
 use crate::body::Body;
@@ -37,7 +35,10 @@ pub fn read_statement<B: Body>(
     }
     match parse_tokens(alloc, bytes, &mut cursor, Mode::Two) {
         Ok(line) => Ok(of_line(line)),
-        Err(error) => of_refused::<B>(bytes, error),
+        Err(error) => match error {
+            LineError::NoMemory => Err(NoMemory),
+            _ => Ok(None),
+        },
     }
 }
 
@@ -62,24 +63,6 @@ fn read_phrase<B: Body>(alloc: Global, cursor: &mut Cursor<'_>) -> Result<B::Phr
         return Err(LineError::Form);
     }
     Ok(phrase)
-}
-
-/// What a line says that is refused in a session of version 2 and does not begin as a phrase does: nothing, unless memory
-/// ran out.
-fn of_refused<B: Body>(
-    bytes: &[u8],
-    error: LineError,
-) -> Result<Option<Reading<B::Phrase>>, NoMemory>
-    requires begins { begins_phrase B.own.phrases.is_lead (tokens_of bytes.now) ≡ false }
-    requires refused { IsRefusedBy Mode.Two bytes.now error }
-    ensures says { IfOk result (SaysOrNot B.own.phrases bytes.now) }
-    ensures beyond { IfOk result (λ reading. IfSome reading (λ r. Tells r.is_beyond (IsBeyondAlone r.statement))) }
-{
-    let _ = bytes;
-    match error {
-        LineError::NoMemory => Err(NoMemory),
-        _ => Ok(None),
-    }
 }
 
 /// What a line of a session says there.

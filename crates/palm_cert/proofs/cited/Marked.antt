@@ -110,3 +110,24 @@ marked_member (true ∷ marks) (y ∷ xs) x m = elim (member_cases y (marked mar
   | inr r ↦ let q = marked_member marks xs x r in (suc q.0, q.1, q.2)
 ]
 marked_member (false ∷ marks) (y ∷ xs) x m = let q = marked_member marks xs x m in (suc q.0, q.1, q.2)
+
+-- ---- the texts of what passes a test
+
+text_cond : {X : Type 0} (f : X → List ℕ) (b : Bool) (x : X) (passed : List X) (rest : List ℕ) → rest ≡ flat_map f passed → cond b (f x) [] ++ rest ≡ flat_map f (cond b (x ∷ passed) passed)
+text_cond f true x passed rest e = ap (λ (t : List ℕ). f x ++ t) e
+text_cond f false x passed rest e = e
+
+module _ {X : Type 0} (f : X → List ℕ) (p : X → Bool) where
+  -- its text, if it passes
+  abbrev pub text_if : X → List ℕ
+  text_if x = cond (p x) (f x) []
+
+  pub texts_passed : (xs : List X) → flat_map text_if xs ≡ flat_map f (filter p xs)
+  texts_passed [] = refl
+  texts_passed (x ∷ xs) = text_cond f (p x) x (filter p xs) (flat_map text_if xs) (texts_passed xs)
+
+  pub text_passes : (x y : X) → p x ≡ true → y ≡ x → f x ≡ text_if y
+  text_passes x y e same = ap (λ (b : Bool). cond b (f x) []) (sym e) ∙ ap text_if (sym same)
+
+  pub text_fails : (x y : X) → p x ≡ false → y ≡ x → [] ≡ text_if y
+  text_fails x y e same = ap (λ (b : Bool). cond b (f x) []) (sym e) ∙ ap text_if (sym same)

@@ -5,7 +5,7 @@ use Rattle.std.specs.List.Sorted.{IsBinarySearchResult}
 use Rattle.std.specs.Ordering.{nat_cmp}
 use Rattle.std.proofs.lemmas.Bool.{cases_lt}
 use Rattle.std.proofs.lemmas.Grind.{flat_map-append}
-use Rattle.std.proofs.lemmas.List.{take_all, take_more, take-append-drop}
+use Rattle.std.proofs.lemmas.List.{take_more}
 use Rattle.std.proofs.lemmas.List.Sorted.{searched}
 use Rattle.std.proofs.lemmas.Option.{none-some, same_Some, slice_get_within}
 use Rattle.palm_base.specs.declared.terms.Pair.{Pair}
@@ -65,22 +65,16 @@ removals_more log places i place r lt at there =
 pub text_one_at : (f : Removal → List ℕ) (log : List Removal) (place : ℕ) (r : Removal) → slice_get log place ≡ Some r → f r ≡ flat_map f (removals_at log (place ∷ []))
 text_one_at f log place r at = sym (ap (λ (rs : List Removal). flat_map f rs) (one_at log place r at) ∙ append-nil (f r))
 
-module _ (f : Removal → List ℕ) (log : List Removal) (places : List ℕ) (i : ℕ) where
-  abbrev texts : List ℕ → List ℕ
-  texts ps = flat_map f (removals_at log ps)
+-- the text of the one at a place
+abbrev pub text_at : (Removal → List ℕ) → List Removal → ℕ → List ℕ
+text_at f log place = flat_map f (removals_at log (place ∷ []))
 
-  texts_both : (ps qs : List ℕ) → texts (ps ++ qs) ≡ texts ps ++ texts qs
-  texts_both ps qs = ap (λ (rs : List Removal). flat_map f rs) (flat_map-append (λ j. take 1 (drop j log)) ps qs) ∙ flat_map-append f (removals_at log ps) (removals_at log qs)
-
-  pub text_more : (place : ℕ) → i < length places → place ≡ get_or places i place → flat_map f (removals_at log (take i places)) ++ flat_map f (removals_at log (place ∷ [])) ≡ flat_map f (removals_at log (take (i + 1) places))
-  text_more place lt at = sym (texts_both (take i places) (place ∷ [])) ∙ ap (λ (p : ℕ). texts (take i places ++ p ∷ [])) at ∙ ap texts (sym (take_more places i place lt))
-
-  pub text_parts : (place : ℕ) → i < length places → place ≡ get_or places i place
-      → flat_map f (removals_at log places) ≡ (flat_map f (removals_at log (take i places)) ++ flat_map f (removals_at log (place ∷ []))) ++ flat_map f (removals_at log (drop (i + 1) places))
-  text_parts place lt at = ap texts (sym (take-append-drop (i + 1) places)) ∙ texts_both (take (i + 1) places) (drop (i + 1) places) ∙ ap (λ (t : List ℕ). t ++ texts (drop (i + 1) places)) (sym (text_more place lt at))
-
-  pub text_whole : length places ≤ i → flat_map f (removals_at log (take i places)) ≡ flat_map f (removals_at log places)
-  text_whole le = ap texts (take_all i places le)
+pub texts_at : (f : Removal → List ℕ) (log : List Removal) (places : List ℕ) → flat_map (text_at f log) places ≡ flat_map f (removals_at log places)
+texts_at f log [] = refl
+texts_at f log (place ∷ places) =
+    let here : List Removal = take 1 (drop place log) in
+    ap (λ (rs : List Removal). flat_map f rs ++ flat_map (text_at f log) places) (append-nil here) ∙ ap (λ (t : List ℕ). flat_map f here ++ t) (texts_at f log places)
+    ∙ sym (flat_map-append f here (removals_at log places))
 
 -- ---- places by a test
 

@@ -1,36 +1,32 @@
-use Rattle.std.proofs.Common.{get_or, sym}
+use Rattle.std.proofs.Common.{get_or}
 use Rattle.std.proofs.lemmas.List.{get_or_default}
 use Rattle.palm_cert.specs.Certificate.{step_line}
 use Rattle.palm_cert.specs.Needs.{removals_at}
-use Rattle.palm_cert.proofs.cited.Stepped.{text_more, text_parts, text_whole}
-use Rattle.palm_lang.proofs.cited.Wrote.{wrote_text, wrote_then, wrote_within}
+use Rattle.palm_cert.proofs.cited.Stepped.{text_at, texts_at}
+use Rattle.palm_lang.proofs.cited.Wrote.{wrote_all, wrote_more, wrote_part, wrote_text}
 use Rattle.palm_cert.proofs.certificate.write_steps.Goals as goal
-
-pub returns-in_err-write_step : goal.returns-in_err-write_step
-returns-in_err-write_step g c =
-    let log = c.args.log.now.log in
-    let steps = c.args.steps.now in
-    let i = c.loop-place.place-index in
-    let here = get_or_default steps i 0 (get_or steps i 0) c.loop-place-test.true in
-    wrote_text (sym (text_parts (step_line c.args.book.now (removals_at log steps)) log steps i (get_or steps i 0) c.loop-place-test.true here))
-    (wrote_within _ c.from_residual.ensures.1 c.loop-place.invariant c.in_err-write_step.ensures)
-
-pub loop-place-preserved : goal.loop-place-preserved
-loop-place-preserved g c =
-    let log = c.args.log.now.log in
-    let steps = c.args.steps.now in
-    let i = c.loop-place.place-index in
-    let here = get_or_default steps i 0 (get_or steps i 0) c.loop-place-test.true in
-    wrote_text (text_more (step_line c.args.book.now (removals_at log steps)) log steps i (get_or steps i 0) c.loop-place-test.true here)
-    (wrote_then c.loop-place.invariant c.in_ok-write_step.ensures)
-
-pub returns : goal.returns
-returns g c =
-    let log = c.args.log.now.log in
-    let steps = c.args.steps.now in
-    wrote_text (text_whole (step_line c.args.book.now (removals_at log steps)) log steps c.loop-place.place-index c.loop-place-test.false) c.loop-place.invariant
 
 pub write_step-requires-clause-step : goal.write_step-requires-clause-step
 write_step-requires-clause-step g c =
     let steps = c.args.steps.now in
     (c.loop-place.place-index, c.loop-place-test.true, get_or_default steps c.loop-place.place-index (get_or steps c.loop-place.place-index 0) 0 c.loop-place-test.true)
+
+pub returns-in_err-write_step : goal.returns-in_err-write_step
+returns-in_err-write_step g c =
+    let log = c.args.log.now.log in
+    let steps = c.args.steps.now in
+    let line = step_line c.args.book.now (removals_at log steps) in
+    wrote_text (texts_at line log steps) (wrote_part (text_at line log) steps c.loop-place.place-index 0 c.loop-place-test.true c.from_residual.ensures.1 c.loop-place.invariant c.in_err-write_step.ensures)
+
+pub loop-place-preserved : goal.loop-place-preserved
+loop-place-preserved g c =
+    let log = c.args.log.now.log in
+    let steps = c.args.steps.now in
+    wrote_more (text_at (step_line c.args.book.now (removals_at log steps)) log) steps c.loop-place.place-index 0 c.loop-place-test.true c.loop-place.invariant c.in_ok-write_step.ensures
+
+pub returns : goal.returns
+returns g c =
+    let log = c.args.log.now.log in
+    let steps = c.args.steps.now in
+    let line = step_line c.args.book.now (removals_at log steps) in
+    wrote_text (texts_at line log steps) (wrote_all (text_at line log) steps c.loop-place.place-index c.loop-place-test.false c.loop-place.invariant)

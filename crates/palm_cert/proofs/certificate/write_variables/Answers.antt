@@ -1,38 +1,47 @@
-use Rattle.std.proofs.Common.{◌<◌, ◌∙◌, length, arith, sym}
+use Rattle.std.proofs.Common.{◌≡◌, ℕ, ◌<◌, ◌∙◌, List, length, get_or, arith, sym, zero-add}
+use Rattle.std.specs.List.{range_with_len}
+use Rattle.std.proofs.lemmas.List.FromFn.{get_or-range_with_len, length-range_with_len}
 use Rattle.palm_cert.specs.Certificate.{declared_line, is_used}
 use Rattle.palm_cert.specs.Needs.{marked}
-use Rattle.palm_lang.proofs.cited.Wrote.{wrote_none, wrote_text, wrote_then, wrote_within}
-use Rattle.palm_cert.proofs.Counting.{below_all, below_more, below_split, none_below, one_below}
+use Rattle.palm_lang.proofs.cited.Wrote.{wrote_all, wrote_more, wrote_none, wrote_part, wrote_text}
+use Rattle.palm_cert.proofs.cited.Marked.{text_fails, text_if, text_passes, texts_passed}
 use Rattle.palm_cert.proofs.certificate.write_variables.Goals as goal
 use Rattle.palm_cert.proofs.certificate.write_variables.Goals.{then-is_used+in_ok-variable, else-is_used}
 
+-- the number at a place is that of the place
+placed : (n i : ℕ) → i < n → (i < length (range_with_len 0 n)) × (get_or (range_with_len 0 n) i 0 ≡ i)
+placed n i lt = (omega (arith, lt, length-range_with_len 0 n), get_or-range_with_len 0 n i 0 lt ∙ zero-add i)
+
 pub returns-in_err-variable : goal.returns-in_err-variable
 returns-in_err-variable g c =
-    let book = c.args.book.now in
-    let line = declared_line book.variables in
-    let used = is_used (marked c.args.cited.now book.constraints) c.args.claimed in
+    let line = declared_line c.args.book.now.variables in
+    let used = is_used (marked c.args.cited.now c.args.book.now.constraints) c.args.claimed in
+    let numbers : List ℕ = range_with_len 0 (length c.args.book.now.variables) in
     let i = c.loop-index.index in
-    let lt : i < length book.variables = omega (arith, c.loop-index-test.true, c.variables-index-end.ensures.count) in
-    let one = one_below line used (length book.variables) i (sym c.is_used.ensures ∙ c.if-is_used.true) in
-    wrote_text (sym (below_split line used (length book.variables) i lt)) (wrote_within _ c.from_residual.ensures.1 c.loop-index.invariant (wrote_text one c.in_err-variable.ensures))
+    let at = placed (length c.args.book.now.variables) i (omega (arith, c.loop-index-test.true, c.variables-index-end.ensures.count)) in
+    wrote_text (texts_passed line used numbers) (wrote_part (text_if line used) numbers i 0 at.0 c.from_residual.ensures.1 c.loop-index.invariant
+    (wrote_text (text_passes line used i (get_or numbers i 0) (sym c.is_used.ensures ∙ c.if-is_used.true) at.1) c.in_err-variable.ensures))
 
 pub loop-index-preserved : goal.loop-index-preserved
 loop-index-preserved g c =
-    let book = c.args.book.now in
-    let line = declared_line book.variables in
-    let used = is_used (marked c.args.cited.now book.constraints) c.args.claimed in
+    let line = declared_line c.args.book.now.variables in
+    let used = is_used (marked c.args.cited.now c.args.book.now.constraints) c.args.claimed in
+    let numbers : List ℕ = range_with_len 0 (length c.args.book.now.variables) in
     let i = c.loop-index.index in
-    let lt : i < length book.variables = omega (arith, c.loop-index-test.true, c.variables-index-end.ensures.count) in
-    wrote_text (below_more line used (length book.variables) i lt) (elim c.if-is_used.branch [
+    let at = placed (length c.args.book.now.variables) i (omega (arith, c.loop-index-test.true, c.variables-index-end.ensures.count)) in
+    elim c.if-is_used.branch [
       | then-is_used+in_ok-variable w ↦
-          rw w.writer-is (wrote_then c.loop-index.invariant (wrote_text (one_below line used (length book.variables) i (sym c.is_used.ensures ∙ w.if-is_used.true)) w.in_ok-variable.ensures))
+          let here = text_passes line used i (get_or numbers i 0) (sym c.is_used.ensures ∙ w.if-is_used.true) at.1 in
+          rw w.writer-is (wrote_more (text_if line used) numbers i 0 at.0 c.loop-index.invariant (wrote_text here w.in_ok-variable.ensures))
       | else-is_used w ↦
-          rw w.writer-is (wrote_then c.loop-index.invariant (wrote_text (none_below line used (length book.variables) i (sym c.is_used.ensures ∙ w.if-is_used.false)) (wrote_none _ tt)))
-    ])
+          let here = text_fails line used i (get_or numbers i 0) (sym c.is_used.ensures ∙ w.if-is_used.false) at.1 in
+          rw w.writer-is (wrote_more (text_if line used) numbers i 0 at.0 c.loop-index.invariant (wrote_text here (wrote_none _ tt)))
+    ]
 
 pub returns : goal.returns
 returns g c =
-    let book = c.args.book.now in
-    wrote_text
-    (below_all (declared_line book.variables) (is_used (marked c.args.cited.now book.constraints) c.args.claimed) (length book.variables) c.loop-index.index (omega (arith, c.loop-index-test.false, c.variables-index-end.ensures.count)))
-    c.loop-index.invariant
+    let line = declared_line c.args.book.now.variables in
+    let used = is_used (marked c.args.cited.now c.args.book.now.constraints) c.args.claimed in
+    let numbers : List ℕ = range_with_len 0 (length c.args.book.now.variables) in
+    wrote_text (texts_passed line used numbers)
+    (wrote_all (text_if line used) numbers c.loop-index.index (omega (arith, c.loop-index-test.false, c.variables-index-end.ensures.count, length-range_with_len 0 (length c.args.book.now.variables))) c.loop-index.invariant)

@@ -6,13 +6,13 @@ use Rattle.proof_check.proofs.marks.usage.Goals as goal
 
 pub loop-place-init : goal.loop-place-init
 loop-place-init c =
-    let before : Marks = record { lemmas = c.in_ok-unmarked.field-0; constraints = c.in_ok-unmarked-2.field-0 } in
+    let before : Marks = record { lemmas = c.in_ok-reached.reached; constraints = c.in_ok-constraints.constraints } in
     let named = c.mark_named.ensures in
     record {
       within = omega arith;
-      constraints = named.constraints.long ∙ ap (λ (ms : List Bool). length ms) c.in_ok-unmarked-2.ensures ∙ length-replicate (c.args.most + 1) _;
-      lemmas = named.lemmas.long ∙ ap (λ (ms : List Bool). length ms) c.in_ok-unmarked.ensures ∙ length-replicate (length c.args.lemmas.now + 1) _;
-      passed = passed_start c.args.lemmas.now c.args.lemma.now before c.mark_named.new.marks (c.args.most + 1) (length c.args.lemmas.now + 1) c.in_ok-unmarked-2.ensures c.in_ok-unmarked.ensures c.requires.last named;
+      constraints = named.constraints.long ∙ ap (λ (ms : List Bool). length ms) (c.in_ok-constraints.ensures.items_if_clones_equal (λ y e. e)) ∙ length-replicate (c.args.most + 1) _;
+      lemmas = named.lemmas.long ∙ ap (λ (ms : List Bool). length ms) (c.in_ok-reached.ensures.items_if_clones_equal (λ y e. e)) ∙ length-replicate (length c.args.lemmas.now + 1) _;
+      passed = passed_start c.args.lemmas.now c.args.lemma.now before c.mark_named.new.marks (c.args.most + 1) (length c.args.lemmas.now + 1) (c.in_ok-constraints.ensures.items_if_clones_equal (λ y e. e)) (c.in_ok-reached.ensures.items_if_clones_equal (λ y e. e)) c.requires.last named;
     }
 
 pub returns : goal.returns

@@ -15,16 +15,16 @@ returns-in_err-write_text_of_lemma g c undone x are empty =
     let same = ap (λ (ps : List Pair). text_of_lemma book undone ps (wiped_by s x) x) (none_held [] refl c.args.search.now.decisions) in
     let users = none_line book c.args.users.now in
     wrote_text (sym (append_assoc (text_of_lemma book undone [] (wiped_by s x) x) users (fixed_text End)))
-    (wrote_front (users ++ fixed_text End) c.from_residual.ensures.1 (wrote_text same (c.in_err-write_text_of_lemma.ensures undone x are empty)))
+    (wrote_front (users ++ fixed_text End) c.from_residual.ensures.1 (wrote_text same (c.in_err-write_text_of_lemma.ensures.lemma undone x are empty)))
 
 pub returns-in_err-names : goal.returns-in_err-names
 returns-in_err-names g c undone x are empty =
     let s = c.args.engine.now.state in
     let same = ap (λ (ps : List Pair). text_of_lemma c.args.book.now undone ps (wiped_by s x) x) (none_held [] refl c.args.search.now.decisions) in
-    wrote_within (fixed_text End) c.from_residual-in_err-names.ensures.1 (wrote_text same (c.in_ok-write_text_of_lemma.ensures undone x are empty)) c.in_err-names.ensures
+    wrote_within (fixed_text End) c.from_residual-in_err-names.ensures.1 (wrote_text same (c.in_ok-write_text_of_lemma.ensures.lemma undone x are empty)) c.in_err-names.ensures
 
 pub returns : goal.returns
 returns g c undone x are empty =
     let s = c.args.engine.now.state in
     let same = ap (λ (ps : List Pair). text_of_lemma c.args.book.now undone ps (wiped_by s x) x) (none_held [] refl c.args.search.now.decisions) in
-    wrote_then (wrote_then (wrote_text same (c.in_ok-write_text_of_lemma.ensures undone x are empty)) c.in_ok-names.ensures) c.word.ensures
+    wrote_then (wrote_then (wrote_text same (c.in_ok-write_text_of_lemma.ensures.lemma undone x are empty)) c.in_ok-names.ensures) c.word.ensures

@@ -30,8 +30,8 @@ write_steps-requires-clause-logged g c =
     subst (λ (log : List Removal). All (IsWritable c.args.book.now) log) (sym c.log-log.ensures)
     (log_writable c.args.book.now (search_state c.args.engine.now.state c.args.search.now) c.requires.fits c.store.ensures.valid)
 
-pub returns-in_err-write_front : goal.returns-in_err-write_front
-returns-in_err-write_front g c undone x are empty =
+pub returns-in_err-write_front-clause-lemma : goal.returns-in_err-write_front-clause-lemma
+returns-in_err-write_front-clause-lemma g c undone x are empty =
     let book = c.args.book.now in
     let s = c.args.engine.now.state in
     let held = c.args.held.now in
@@ -41,8 +41,8 @@ returns-in_err-write_front g c undone x are empty =
     let same = ap (λ (ds : List Pair). lemma_line book.variables (held_decisions ds held)) c.decisions.ensures in
     wrote_text (sym (append_assoc first second third)) (wrote_front (second ++ third) c.from_residual.ensures.1 (wrote_text same c.in_err-write_front.ensures))
 
-pub returns-in_err-needed : goal.returns-in_err-needed
-returns-in_err-needed g c undone x are empty =
+pub returns-in_err-needed-clause-lemma : goal.returns-in_err-needed-clause-lemma
+returns-in_err-needed-clause-lemma g c undone x are empty =
     let book = c.args.book.now in
     let s = c.args.engine.now.state in
     let held = c.args.held.now in
@@ -53,8 +53,8 @@ returns-in_err-needed g c undone x are empty =
     wrote_text (sym (append_assoc first second third))
     (wrote_then (wrote_text same c.in_ok-write_front.ensures) (wrote_nothing _ _ (second ++ third) refl c.from_residual-in_err-needed.ensures.1))
 
-pub returns-in_err-write_steps : goal.returns-in_err-write_steps
-returns-in_err-write_steps g c undone x are empty =
+pub returns-in_err-write_steps-clause-lemma : goal.returns-in_err-write_steps-clause-lemma
+returns-in_err-write_steps-clause-lemma g c undone x are empty =
     let book = c.args.book.now in
     let s = c.args.engine.now.state in
     let held = c.args.held.now in
@@ -64,8 +64,8 @@ returns-in_err-write_steps g c undone x are empty =
     (ap (λ (ds : List Pair). held_decisions ds held) c.decisions.ensures) c.log-log.ensures values c.removals.ensures.linked (subst (λ (places : List ℕ). AreNeeded c.log-log.result.now.log (pairs_with c.in-Some.var c.as_slice.result.now) places) (sym c.deref.ensures.value) c.in_ok-needed.ensures.ok) (sym (c.in-Some.ensures.only x empty)) in
     wrote_text text (wrote_within (wipe_line book.variables y) c.from_residual-in_err-write_steps.ensures.1 c.in_ok-write_front.ensures (c.in_err-write_steps.ensures undone are))
 
-pub returns : goal.returns
-returns g c undone x are empty =
+pub returns-clause-lemma : goal.returns-clause-lemma
+returns-clause-lemma g c undone x are empty =
     let book = c.args.book.now in
     let s = c.args.engine.now.state in
     let held = c.args.held.now in
