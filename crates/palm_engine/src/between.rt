@@ -17,7 +17,7 @@ ghost use Rattle.palm_engine.specs.declared.filtering.Filtering.{Filtering as Fi
 use crate::filtering::Filtering;
 use crate::posted::Posted;
 use crate::reasons::ReasonRoom;
-use crate::values::take_out;
+use crate::values::take_out_on;
 use palm_base::{NoMemory, Pair, Steps, Value, Var};
 use palm_domain::{DomainStore, Placed};
 use palm_filter::Filter;
@@ -47,6 +47,7 @@ fn rise<F: Filter, L: Ledger>(
         HasCounted (length (values_below (value +ℤ pos 1) (values_of (initial_of filtering.old.store) var))) filtering.old filtering.new steps.old steps.new)) }
     ensures asked { IfOk result (λ first. IfSome first (λ value. steps.old + asks_of (active_of F.meaning constraint.now) ≤ steps.new)) }
 {
+    room.known = None;
     let mut next = Some(filtering.store.first_placed(var));
     while let Some(placed) = next {
         let value = placed.value;
@@ -58,7 +59,7 @@ fn rise<F: Filter, L: Ledger>(
         ) {
             return Ok(Some(value));
         }
-        take_out(filtering, constraint, Pair { var, value }, room)?;
+        take_out_on(filtering, constraint, Pair { var, value }, room)?;
         next = filtering.store.next_placed(var, placed);
     }
     Ok(None)
@@ -100,12 +101,16 @@ fn last_supported<F: Filter, L: Ledger>(
 
 /// The least present value above this one, with its place.
 fn placed_after(store: &DomainStore, var: Var, value: Value) -> Option<Placed>
-    requires { var < length store.now }
+    requires declared { var < length store.now }
+    requires filled { 0 < length (present_values store.now var) }
     ensures next { MatchOption result
         ((w : ℤ) → IsPresent store.now var w → w <ℤ (value +ℤ pos 1))
         (λ p. IsNextFrom (present_values store.now var) (value +ℤ pos 1) p.value) }
     ensures placed { IfSome result (IsPlaced store.now var) }
 {
+    if store.greatest(var) <= value {
+        return None;
+    }
     let placed = store.placed_from(var, value)?;
     if value < placed.value {
         Some(placed)
@@ -134,13 +139,14 @@ fn take_out_from<F: Filter>(
         → IsRevising filtering.new active (active_of F.meaning constraint.now) }
     ensures checks { filtering.new.checks ≡ filtering.old.checks }
 {
+    room.known = None;
     let mut next = from;
     while let Some(placed) = next {
         let pair = Pair {
             var,
             value: placed.value,
         };
-        take_out(filtering, constraint, pair, room)?;
+        take_out_on(filtering, constraint, pair, room)?;
         next = filtering.store.next_placed(var, placed);
     }
     Ok(())

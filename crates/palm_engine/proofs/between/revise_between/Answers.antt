@@ -1,13 +1,13 @@
-use Rattle.std.proofs.Common.{◌+◌, ◌≤◌, ℤ, ◌+ℤ◌, Option, IfSome, length, pos, sym, subst}
-use Rattle.palm_domain.specs.Rows.{initial_of, present_of, present_values}
-use Rattle.palm_model.specs.Domains.{values_of}
+use Rattle.std.proofs.Common.{◌+◌, ◌≤◌, ℤ, ◌+ℤ◌, Option, IfSome, List, length, pos, ap, sym, subst}
+use Rattle.palm_domain.specs.Rows.{Row, initial_of, present_of, present_values}
+use Rattle.palm_model.specs.Domains.{Has, values_of}
 use Rattle.palm_model.specs.Removed.{pairs_of}
 use Rattle.palm_model.specs.Support.{IsSupported}
 use Rattle.palm_engine.specs.declared.filtering.Filtering.{Filtering}
 use Rattle.palm_engine.specs.Advancing.{Advanced, placed_value, values_before, values_below}
 use Rattle.palm_engine.specs.Posted.{active_of}
 use Rattle.palm_engine.specs.Revising.{HasCounted, IsRevising}
-use Rattle.palm_engine.proofs.Revised.{var_stored}
+use Rattle.palm_engine.proofs.Revised.{some_length, var_stored}
 use Rattle.palm_engine.specs.Work.{asks_of}
 use Rattle.palm_engine.proofs.PlacedWalks.{next_value}
 use Rattle.palm_engine.proofs.Progress.{values_done, values_supported, revising_checks, on_either, on_ok, on_err_of}
@@ -37,13 +37,20 @@ last_supported-last-requires-clause-present g c =
     let w = subst (λ n. Advanced r.0 (active_of g.F.Filter.meaning c.args.constraint.now) c.args.var n c.args.filtering.now c.rise.new.filtering) c.in-Some.is (c.in_ok-first.ensures.advanced r.0 r.1) in
     w.present
 
-pub placed_after-above-requires : goal.placed_after-above-requires
-placed_after-above-requires g c =
+pub placed_after-above-requires-clause-declared : goal.placed_after-above-requires-clause-declared
+placed_after-above-requires-clause-declared g c =
     let r = c.requires.revising in
     let owner = active_of g.F.Filter.meaning c.args.constraint.now in
     let now = c.rise.new.filtering in
     let revising = revising_checks r.0 owner now c.last_supported-last.new.filtering.checks (c.rise.ensures.revising r.0 r.1) in
     var_stored c.last_supported-last.new.filtering r.0 owner (subst (λ (z : Filtering). IsRevising z r.0 owner) (sym c.last_supported-last.ensures.same) revising) c.args.var c.requires.over
+
+pub placed_after-above-requires-clause-filled : goal.placed_after-above-requires-clause-filled
+placed_after-above-requires-clause-filled g c =
+    let last = c.last_supported-last.ensures in
+    let store = ap (λ (f : Filtering). f.store) last.same in
+    some_length (present_values c.last_supported-last.new.filtering.store c.args.var) c.last_supported-last.result
+    (subst (λ (rows : List Row). Has (present_of rows) c.args.var c.last_supported-last.result) (sym store) last.present)
 
 pub take_out_from-requires-clause-advanced : goal.take_out_from-requires-clause-advanced
 take_out_from-requires-clause-advanced g c =
