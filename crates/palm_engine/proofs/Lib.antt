@@ -12,8 +12,10 @@ pub mod Hits
 pub mod HitWalk
 pub mod Joined
 pub mod Keeping
+pub mod Knowing
 pub mod Marking
 pub mod Others
+pub mod Own
 pub mod Places
 pub mod PlacedWalks
 pub mod Placing

@@ -1,5 +1,5 @@
 -- Walks where all values but one have support alike.
-use Rattle.std.proofs.Common.{◌≡◌, ◌≢◌, ℕ, ◌+◌, ◌≤◌, Bool, true, false, not, ℤ, pos, ◌+ℤ◌, List, [], ◌∷◌, ◌++◌, length, filter, Contains, Option, Some, None, IfNone, Result, Ok, Err, OnOk, OnErr, inl, inr, refl, sym, ap, ◌∙◌, subst, arith, zero-add, length-append, int_eq}
+use Rattle.std.proofs.Common.{◌≡◌, ◌≢◌, ℕ, ◌+◌, ◌≤◌, Bool, true, false, not, ℤ, pos, ◌+ℤ◌, ◌<ℤ◌, List, [], ◌∷◌, ◌++◌, length, filter, Contains, Option, Some, None, Result, Ok, Err, OnOk, OnErr, inl, inr, refl, sym, ap, ◌∙◌, subst, arith, zero-add, length-append, int_eq}
 use Rattle.std.proofs.lemmas.Int.{ints}
 use Rattle.std.proofs.lemmas.List.Elements.{filter-append}
 use Rattle.std.proofs.lemmas.List.Filters.{length-filter_both}
@@ -41,9 +41,8 @@ same_value b v w e f = (Decides-int_eq v w).0 (not_false (int_eq v w) (sym e ∙
     not_false false h = absurd (false≢true (sym h))
 
 -- where the least is this one, and no value is above it, there is no other
-pub other_none : (next : Option ℤ) (now : List ℤ) (v but : ℤ) → IsLeastOf now v → v ≡ but → IsNextAt next now (v +ℤ pos 1) → IfNone next ((w : ℤ) → Contains now w → w ≡ but)
-other_none (Some u) now v but least is next = tt
-other_none None now v but least is none = λ w has.
+pub other_none : (now : List ℤ) (v but : ℤ) → IsLeastOf now v → v ≡ but → ((w : ℤ) → Contains now w → w <ℤ (v +ℤ pos 1)) → (w : ℤ) → Contains now w → w ≡ but
+other_none now v but least is none w has =
     let lt = none w has in
     let ge = least.least w has in
     omega (arith, ints, is, lt, ge)

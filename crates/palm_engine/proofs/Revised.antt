@@ -193,6 +193,6 @@ reasons_logged f active owner p r filled has lacks q m =
 
 -- and spans that stand for them where they were taken out do so
 pub reasons_told : (f : Filtering) (active : List Active) (owner : Active) (p : Pair) → IsRevising f active owner → AllFilled (present_of f.store) → Has (present_of f.store) p.var p.value → LacksSupport (present_of f.store) owner.con p.var p.value
-    → (spans out : List Span) → spans ≡ out → IsToldBy f.store (stated f owner p) out → AreSpanned (log_pairs f.log.log) spans (stated f owner p)
+    → (spans out : List Span) → spans ≡ out → IsToldBy (initial_of f.store) (stated f owner p) out → AreSpanned (log_pairs f.log.log) spans (stated f owner p)
 reasons_told f active owner p r filled has lacks spans out e told =
-    subst (λ ss. AreSpanned (log_pairs f.log.log) ss (stated f owner p)) (sym e) (told (log_pairs f.log.log) r.kept.removed (reasons_logged f active owner p r filled has lacks))
+    subst (λ ss. AreSpanned (log_pairs f.log.log) ss (stated f owner p)) (sym e) (told (log_pairs f.log.log) r.kept.removed.declared (reasons_logged f active owner p r filled has lacks))

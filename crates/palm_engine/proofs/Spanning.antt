@@ -10,7 +10,7 @@ use Rattle.palm_base.proofs.cited.Members.{member_flat_map, member_map}
 use Rattle.palm_domain.specs.Rows.{Ascends, Row, IsDeclared, IsPresent, declared_values, initial_of, present_of}
 use Rattle.palm_domain.proofs.cited.Ascending.{get_or-ascends, get_or-rises, Ascends-from_adjacent, place_below}
 use Rattle.palm_explain.specs.Entries.{pairs_with}
-use Rattle.palm_explain.specs.Explanations.{AreSpanned, IsSpanOf, LacksExactly}
+use Rattle.palm_explain.specs.Explanations.{AreSpanned, IsSpanOf}
 use Rattle.palm_explain.specs.Explanations.AreSpanned.{spans_end, spans_on}
 use Rattle.palm_explain.specs.declared.spans.Span.{Span}
 use Rattle.palm_filter.specs.Rules.{FitsRule, interval_pairs, listed_pairs, written}
@@ -116,9 +116,9 @@ pub listed_on : (d : Domains) (intervals : List Interval) (i : Interval) → lis
 listed_on d intervals i = flat_map-append (λ (j : Interval). interval_pairs d j) intervals (i ∷ []) ∙ ap (λ ps. listed_pairs d intervals ++ ps) (append-nil (interval_pairs d i))
 
 -- the declared values of an interval are a run of the removed ones, where all of them are removed
-pub interval_run : (rows : List Row) (pairs : List Pair) (i : Interval) → LacksExactly rows pairs → Ascends (declared_values rows i.var)
+pub interval_run : (rows : List Row) (pairs : List Pair) (i : Interval) → ((p : Pair) → Contains pairs p → Has (initial_of rows) p.var p.value) → Ascends (declared_values rows i.var)
     → ((p : Pair) → Contains (interval_pairs (initial_of rows) i) p → Contains pairs p) → IsRun pairs i.var (values_in (declared_values rows i.var) i)
-interval_run rows pairs i lacks rise all =
+interval_run rows pairs i declared rise all =
     let vs = declared_values rows i.var in
     let e = min i.end (length vs) in
     let f = min i.first e in
@@ -129,7 +129,7 @@ interval_run rows pairs i lacks rise all =
       each = λ v m. all (record { var = i.var; value = v }) (member_map (λ w. let p : Pair = record { var = i.var; value = w } in p) (values_in vs i) v m);
       whole = λ u v w mu mw low high m.
           subst (λ ws. Contains ws v) cut
-          (slice_whole vs rise f (e - f) le u v w (subst (λ ws. Contains ws u) (sym cut) mu) (subst (λ ws. Contains ws w) (sym cut) mw) low high (lacks.declared (record { var = i.var; value = v }) m));
+          (slice_whole vs rise f (e - f) le u v w (subst (λ ws. Contains ws u) (sym cut) mu) (subst (λ ws. Contains ws w) (sym cut) mw) low high (declared (record { var = i.var; value = v }) m));
     }
 
 -- the pairs of one interval are among those of all

@@ -29,11 +29,12 @@ fn other_value(store: &DomainStore, var: Var, but: Value) -> Option<Value>
     ensures none { IfNone result ((v : ℤ) → Has (present_of store.now) var v → v ≡ but) }
     ensures some { IfSome result (λ other. Has (present_of store.now) var other × (other ≢ but)) }
 {
-    let least = store.least(var);
-    if least != but {
-        Some(least)
+    let least = store.first_placed(var);
+    if least.value != but {
+        Some(least.value)
     } else {
-        store.next_after(var, least)
+        let next = store.next_placed(var, least)?;
+        Some(next.value)
     }
 }
 
@@ -147,10 +148,14 @@ fn take_others_out<F: Filter, L: Ledger>(
     ensures supported { OnOk result (AreSupportedAt filtering.new (active_of F.meaning constraint.now) var) }
     ensures counted { HasTicked (asked_of but (values_of (initial_of filtering.old.store) var)) filtering.old filtering.new steps.old steps.new }
 {
-    let mut next = Some(filtering.store.least(var));
-    while let Some(value) = next {
-        take_out_unless(filtering, constraint, Pair { var, value }, but, room, steps)?;
-        next = filtering.store.next_after(var, value);
+    let mut next = Some(filtering.store.first_placed(var));
+    while let Some(placed) = next {
+        let pair = Pair {
+            var,
+            value: placed.value,
+        };
+        take_out_unless(filtering, constraint, pair, but, room, steps)?;
+        next = filtering.store.next_placed(var, placed);
     }
     Ok(())
 }

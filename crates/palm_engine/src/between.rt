@@ -1,6 +1,6 @@
 //! The walk where the values with support lie together: support is asked for from both ends alone.
-ghost use Rattle.std.specs.Prelude.{◌≡◌, ◌+◌, ◌≤◌, ℤ, pos, ◌+ℤ◌, ◌≤ℤ◌, List, length, Contains, None, OnErr, OnOk, IfOk, IfSome};
-ghost use Rattle.palm_domain.specs.Rows.{initial_of, present_of};
+ghost use Rattle.std.specs.Prelude.{◌≡◌, ◌+◌, ◌≤◌, ℤ, pos, ◌+ℤ◌, ◌≤ℤ◌, List, length, Contains, None, OnErr, OnOk, IfOk, IfSome, MatchOption, ◌<◌, ◌<ℤ◌};
+ghost use Rattle.palm_domain.specs.Rows.{IsNextFrom, IsPlaced, IsPresent, initial_of, present_of, present_values};
 ghost use Rattle.palm_filter.specs.Shapes.{IsConvex};
 ghost use Rattle.palm_model.specs.Constraint.{scope};
 ghost use Rattle.palm_model.specs.Domains.{Has, values_of};
@@ -8,7 +8,7 @@ ghost use Rattle.palm_model.specs.Log.{Active};
 ghost use Rattle.palm_model.specs.Removed.{pairs_of};
 ghost use Rattle.palm_model.specs.State.{AllFilled};
 ghost use Rattle.palm_model.specs.Support.{IsSupported};
-ghost use Rattle.palm_engine.specs.Advancing.{Advanced, LacksAbove, LacksFrom, values_below, values_from};
+ghost use Rattle.palm_engine.specs.Advancing.{Advanced, LacksAbove, LacksFrom, placed_value, values_below, values_from};
 ghost use Rattle.palm_engine.specs.Posted.{active_of};
 ghost use Rattle.palm_engine.specs.Revising.{AreSupportedAt, HasCounted, IsRevising, Walked, WalkedPart};
 ghost use Rattle.palm_engine.specs.Work.{asks_of};
@@ -17,8 +17,9 @@ ghost use Rattle.palm_engine.specs.declared.filtering.Filtering.{Filtering as Fi
 use crate::filtering::Filtering;
 use crate::posted::Posted;
 use crate::reasons::ReasonRoom;
-use crate::values::take_out;
+use crate::values::take_out_on;
 use palm_base::{NoMemory, Pair, Steps, Value, Var};
+use palm_domain::{DomainStore, Placed};
 use palm_filter::Filter;
 use std::sync::ledger::Ledger;
 
@@ -46,8 +47,10 @@ fn rise<F: Filter, L: Ledger>(
         HasCounted (length (values_below (value +ℤ pos 1) (values_of (initial_of filtering.old.store) var))) filtering.old filtering.new steps.old steps.new)) }
     ensures asked { IfOk result (λ first. IfSome first (λ value. steps.old + asks_of (active_of F.meaning constraint.now) ≤ steps.new)) }
 {
-    let mut next = Some(filtering.store.least(var));
-    while let Some(value) = next {
+    room.known = None;
+    let mut next = Some(filtering.store.first_placed(var));
+    while let Some(placed) = next {
+        let value = placed.value;
         if constraint.is_supported(
             &filtering.store,
             Pair { var, value },
@@ -56,8 +59,8 @@ fn rise<F: Filter, L: Ledger>(
         ) {
             return Ok(Some(value));
         }
-        take_out(filtering, constraint, Pair { var, value }, room)?;
-        next = filtering.store.next_after(var, value);
+        take_out_on(filtering, constraint, Pair { var, value }, room)?;
+        next = filtering.store.next_placed(var, placed);
     }
     Ok(None)
 }
@@ -96,29 +99,55 @@ fn last_supported<F: Filter, L: Ledger>(
     value
 }
 
+/// The least present value above this one, with its place.
+fn placed_after(store: &DomainStore, var: Var, value: Value) -> Option<Placed>
+    requires declared { var < length store.now }
+    requires filled { 0 < length (present_values store.now var) }
+    ensures next { MatchOption result
+        ((w : ℤ) → IsPresent store.now var w → w <ℤ (value +ℤ pos 1))
+        (λ p. IsNextFrom (present_values store.now var) (value +ℤ pos 1) p.value) }
+    ensures placed { IfSome result (IsPlaced store.now var) }
+{
+    if store.greatest(var) <= value {
+        return None;
+    }
+    let placed = store.placed_from(var, value)?;
+    if value < placed.value {
+        Some(placed)
+    } else {
+        store.next_placed(var, placed)
+    }
+}
+
 /// Takes the present values from this one on out, which are known to lack support.
 fn take_out_from<F: Filter>(
     filtering: &mut Filtering,
     constraint: &Posted<F>,
     var: Var,
-    from: Option<Value>,
+    from: Option<Placed>,
     room: &mut ReasonRoom,
 ) -> Result<(), NoMemory>
-    requires advanced { (active : List Active) × (before : FilteringTerm) × Advanced active (active_of F.meaning constraint.now) var from before filtering.old }
+    requires advanced { (active : List Active) × (before : FilteringTerm) × Advanced active (active_of F.meaning constraint.now) var (placed_value from) before filtering.old }
     requires over { Contains (scope (active_of F.meaning constraint.now).con) var }
-    requires lacking { LacksFrom filtering.old (active_of F.meaning constraint.now) var from }
-    ensures advanced { (active : List Active) (before : FilteringTerm) → Advanced active (active_of F.meaning constraint.now) var from before filtering.old
+    requires placed { IfSome from (IsPlaced filtering.old.store var) }
+    requires lacking { LacksFrom filtering.old (active_of F.meaning constraint.now) var (placed_value from) }
+    ensures advanced { (active : List Active) (before : FilteringTerm) → Advanced active (active_of F.meaning constraint.now) var (placed_value from) before filtering.old
         → OnOk result (Advanced active (active_of F.meaning constraint.now) var None before filtering.new) }
-    ensures part { (active : List Active) (before : FilteringTerm) → Advanced active (active_of F.meaning constraint.now) var from before filtering.old
+    ensures part { (active : List Active) (before : FilteringTerm) → Advanced active (active_of F.meaning constraint.now) var (placed_value from) before filtering.old
         → OnErr result (WalkedPart active (active_of F.meaning constraint.now) (pairs_of var (values_of (initial_of before.store) var)) before filtering.new) }
     ensures revising { (active : List Active) → IsRevising filtering.old active (active_of F.meaning constraint.now)
         → IsRevising filtering.new active (active_of F.meaning constraint.now) }
     ensures checks { filtering.new.checks ≡ filtering.old.checks }
 {
+    room.known = None;
     let mut next = from;
-    while let Some(value) = next {
-        take_out(filtering, constraint, Pair { var, value }, room)?;
-        next = filtering.store.next_after(var, value);
+    while let Some(placed) = next {
+        let pair = Pair {
+            var,
+            value: placed.value,
+        };
+        take_out_on(filtering, constraint, pair, room)?;
+        next = filtering.store.next_placed(var, placed);
     }
     Ok(())
 }
@@ -148,6 +177,6 @@ pub(crate) fn revise_between<F: Filter, L: Ledger>(
         return Ok(());
     };
     let last = last_supported(filtering, constraint, var, first, steps);
-    let above = filtering.store.next_after(var, last);
+    let above = placed_after(&filtering.store, var, last);
     take_out_from(filtering, constraint, var, above, room)
 }

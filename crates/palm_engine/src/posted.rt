@@ -13,15 +13,15 @@ ghost use Rattle.palm_explain.specs.CidSets.{Adds};
 ghost use Rattle.palm_filter.specs.Heeds.{FitsHeed};
 ghost use Rattle.palm_filter.specs.Shapes.{FitsShape};
 ghost use Rattle.palm_engine.specs.Posted.{IsInForm, active_of, actives_of, is_decision, is_negation, negated};
-ghost use Rattle.palm_engine.specs.Reasons.{Goes, IsToldBy, reason_in};
+ghost use Rattle.palm_engine.specs.Reasons.{Goes, IsToldBy, Knows, reason_in};
 ghost use Rattle.palm_engine.specs.Work.{asks_of};
 
 use crate::justification::Justification;
-use crate::reasons::spans_by_rule;
+use crate::reasons::{ReasonRoom, spans_by_rule};
 use palm_base::{Cid, HasCid, NoMemory, Pair, Steps, Var};
 use palm_domain::DomainStore;
-use palm_explain::{CidSet, Span};
-use palm_filter::{Filter, Heed, Intervals, Reasons, Shape, ask};
+use palm_explain::CidSet;
+use palm_filter::{Filter, Heed, Reasons, Shape, ask};
 use std::array;
 use std::sync::ledger::Ledger;
 
@@ -184,26 +184,28 @@ impl<F: Filter> Posted<F> {
         }
     }
 
-    /// Makes `out` the spans of the removed pairs for which the value has no support, where these are known by a rule, and answers
-    /// whether they are. Decisions and negations have no reasons.
+    /// Makes the room's spans those of the removed pairs for which the value has no support, where a rule of them is known, and
+    /// answers whether it is. Decisions and negations have no reasons.
     pub(crate) fn tells_spans(
         &self,
         store: &DomainStore,
         pair: &Pair,
-        intervals: &mut Intervals,
-        out: &mut Vec<Span>,
+        room: &mut ReasonRoom,
     ) -> Result<bool, NoMemory>
         requires formed { IsInForm (length store.now) (active_of F.meaning self.now) }
         requires goes { Goes store.now (active_of F.meaning self.now).con pair.now }
-        ensures { IfOk result (λ told. told ≡ true
-            → IsToldBy store.now (reason_in store.now (active_of F.meaning self.now).con pair.now) out.new.items) }
+        requires knows { Knows store.now (active_of F.meaning self.now).con pair.now.var pair.now.value room.old }
+        ensures told { IfOk result (λ told. told ≡ true
+            → IsToldBy (initial_of store.now) (reason_in store.now (active_of F.meaning self.now).con pair.now) room.new.spans.items) }
+        ensures knows { OnOk result (Knows store.now (active_of F.meaning self.now).con pair.now.var pair.now.value room.new) }
     {
         match self {
             Posted::Decision(_) | Posted::Negation { .. } => {
-                out.clear();
+                room.known = None;
+                room.spans.clear();
                 Ok(true)
             }
-            Posted::User { filter, .. } => spans_by_rule(filter, store, pair, intervals, out),
+            Posted::User { filter, .. } => spans_by_rule(filter, store, pair, room),
         }
     }
 

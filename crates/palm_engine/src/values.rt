@@ -9,6 +9,7 @@ ghost use Rattle.palm_model.specs.State.{AllFilled};
 ghost use Rattle.palm_model.specs.Support.{IsSupported, LacksSupport};
 ghost use Rattle.palm_engine.specs.Advancing.{AreSupportedBeyond, AreSupportedUnless};
 ghost use Rattle.palm_engine.specs.Posted.{active_of};
+ghost use Rattle.palm_engine.specs.Reasons.{Knows};
 ghost use Rattle.palm_engine.specs.Revising.{AreSupportedAt, HasCounted, IsRevising, Walked, WalkedPart};
 ghost use Rattle.palm_engine.specs.Settling.{IsDue};
 
@@ -22,6 +23,42 @@ use palm_agenda::Mark;
 use palm_base::{HasCid, NoMemory, Pair, Steps, Value, Var};
 use palm_filter::{Filter, Shape};
 use std::sync::ledger::Ledger;
+
+/// Takes a present value out that lacks support, in a walk over the values of its variable from which the room has a rule of
+/// their reasons, if there is one. Without memory it stays.
+#[inline(always)]
+pub(crate) fn take_out_on<F: Filter>(
+    filtering: &mut Filtering,
+    constraint: &Posted<F>,
+    pair: Pair,
+    room: &mut ReasonRoom,
+) -> Result<(), NoMemory>
+    requires revising { (active : List Active) × IsRevising filtering.old active (active_of F.meaning constraint.now) }
+    requires filled { AllFilled (present_of filtering.old.store) }
+    requires over { Contains (scope (active_of F.meaning constraint.now).con) pair.var }
+    requires present { Has (present_of filtering.old.store) pair.var pair.value }
+    requires lacking { LacksSupport (present_of filtering.old.store) (active_of F.meaning constraint.now).con pair.var pair.value }
+    requires knows { Knows filtering.old.store (active_of F.meaning constraint.now).con pair.var pair.value room.old }
+    ensures walked { (active : List Active) → IsRevising filtering.old active (active_of F.meaning constraint.now)
+        → OnOk result (Walked active (active_of F.meaning constraint.now) (pair ∷ []) filtering.old filtering.new) }
+    ensures revising { (active : List Active) → IsRevising filtering.old active (active_of F.meaning constraint.now)
+        → IsRevising filtering.new active (active_of F.meaning constraint.now) }
+    ensures gone { OnOk result (LosesPair filtering.old.store filtering.new.store pair.var pair.value) }
+    ensures knows { OnOk result (Knows filtering.new.store (active_of F.meaning constraint.now).con pair.var pair.value room.new) }
+    ensures err { OnErr result (filtering.new ≡ filtering.old) }
+    ensures checks { filtering.new.checks ≡ filtering.old.checks }
+{
+    let Pair { var, value } = pair;
+    if constraint.tells_spans(&filtering.store, &Pair { var, value }, room)? {
+        return filtering.remove_for_spans(
+            Pair { var, value },
+            constraint.cid(),
+            room.spans.as_slice(),
+        );
+    }
+    constraint.reason(&filtering.store, Pair { var, value }, &mut room.pairs)?;
+    filtering.remove(Pair { var, value }, constraint.cid(), room.pairs.as_slice())
+}
 
 /// Takes a present value out that lacks support. Without memory it stays.
 #[inline(always)]
@@ -44,21 +81,8 @@ pub(crate) fn take_out<F: Filter>(
     ensures err { OnErr result (filtering.new ≡ filtering.old) }
     ensures checks { filtering.new.checks ≡ filtering.old.checks }
 {
-    let Pair { var, value } = pair;
-    if constraint.tells_spans(
-        &filtering.store,
-        &Pair { var, value },
-        &mut room.intervals,
-        &mut room.spans,
-    )? {
-        return filtering.remove_for_spans(
-            Pair { var, value },
-            constraint.cid(),
-            room.spans.as_slice(),
-        );
-    }
-    constraint.reason(&filtering.store, Pair { var, value }, &mut room.pairs)?;
-    filtering.remove(Pair { var, value }, constraint.cid(), room.pairs.as_slice())
+    room.known = None;
+    take_out_on(filtering, constraint, pair, room)
 }
 
 /// Asks for a present value of the constraint's variable, and takes it out where it lacks support. Without memory

@@ -5,7 +5,8 @@ use Rattle.palm_engine.specs.Posted.{active_of}
 use Rattle.palm_engine.specs.Revising.{IsRevising}
 use Rattle.palm_engine.proofs.Revised.{owner_in_form, owner_filled, reasons_logged, reasons_told, stated}
 use Rattle.palm_engine.proofs.Progress.{taken_walked, taken_revising, on_ok, on_either}
-use Rattle.palm_engine.proofs.values.take_out.Goals as goal
+use Rattle.palm_engine.proofs.Knowing.{knows_still}
+use Rattle.palm_engine.proofs.values.take_out_on.Goals as goal
 
 pub tells_spans-requires-clause-formed : goal.tells_spans-requires-clause-formed
 tells_spans-requires-clause-formed g c = let r = c.requires.revising in owner_in_form c.args.filtering.now r.0 (active_of g.F.Filter.meaning c.args.constraint.now) r.1
@@ -23,16 +24,16 @@ remove_for_spans-requires-clause-spanned g c =
     let f = c.args.filtering.now in
     let owner = active_of g.F.Filter.meaning c.args.constraint.now in (
       stated f owner c.args.pair,
-      reasons_told f r.0 owner c.args.pair r.1 c.requires.filled c.requires.present c.requires.lacking c.as_slice.result.now c.tells_spans.new.out.items
-          c.as_slice.ensures.value (c.in_ok-tells_spans.ensures c.if-branch.true),
+      reasons_told f r.0 owner c.args.pair r.1 c.requires.filled c.requires.present c.requires.lacking c.as_slice.result.now c.tells_spans.new.room.spans.items
+          c.as_slice.ensures.value (c.in_ok-tells_spans.ensures.told c.if-branch.true),
     )
 
 pub returns-then-branch-clause-walked : goal.returns-then-branch-clause-walked
 returns-then-branch-clause-walked g c = λ active r.
     let f = c.args.filtering.now in
     let owner = active_of g.F.Filter.meaning c.args.constraint.now in
-    let told = reasons_told f active owner c.args.pair r c.requires.filled c.requires.present c.requires.lacking c.as_slice.result.now c.tells_spans.new.out.items
-    c.as_slice.ensures.value (c.in_ok-tells_spans.ensures c.if-branch.true) in
+    let told = reasons_told f active owner c.args.pair r c.requires.filled c.requires.present c.requires.lacking c.as_slice.result.now c.tells_spans.new.room.spans.items
+    c.as_slice.ensures.value (c.in_ok-tells_spans.ensures.told c.if-branch.true) in
     on_ok c.remove_for_spans.result (λ takes. taken_walked active owner c.args.pair f c.remove_for_spans.new.self c.cid.result (stated f owner c.args.pair) r
     c.requires.filled c.requires.present c.requires.lacking c.requires.over c.cid.ensures refl takes) (c.remove_for_spans.ensures.ok (stated f owner c.args.pair) told)
 
@@ -40,8 +41,8 @@ pub returns-then-branch-clause-revising : goal.returns-then-branch-clause-revisi
 returns-then-branch-clause-revising g c = λ active r.
     let f = c.args.filtering.now in
     let owner = active_of g.F.Filter.meaning c.args.constraint.now in
-    let told = reasons_told f active owner c.args.pair r c.requires.filled c.requires.present c.requires.lacking c.as_slice.result.now c.tells_spans.new.out.items
-    c.as_slice.ensures.value (c.in_ok-tells_spans.ensures c.if-branch.true) in
+    let told = reasons_told f active owner c.args.pair r c.requires.filled c.requires.present c.requires.lacking c.as_slice.result.now c.tells_spans.new.room.spans.items
+    c.as_slice.ensures.value (c.in_ok-tells_spans.ensures.told c.if-branch.true) in
     on_either c.remove_for_spans.result
     (λ takes. taken_revising active owner c.args.pair f c.remove_for_spans.new.self c.cid.result (stated f owner c.args.pair) r
     c.requires.filled c.requires.present c.requires.lacking c.requires.over c.cid.ensures refl takes)
@@ -53,8 +54,8 @@ returns-then-branch-clause-gone g c =
     let r = c.requires.revising in
     let f = c.args.filtering.now in
     let owner = active_of g.F.Filter.meaning c.args.constraint.now in
-    let told = reasons_told f r.0 owner c.args.pair r.1 c.requires.filled c.requires.present c.requires.lacking c.as_slice.result.now c.tells_spans.new.out.items
-    c.as_slice.ensures.value (c.in_ok-tells_spans.ensures c.if-branch.true) in
+    let told = reasons_told f r.0 owner c.args.pair r.1 c.requires.filled c.requires.present c.requires.lacking c.as_slice.result.now c.tells_spans.new.room.spans.items
+    c.as_slice.ensures.value (c.in_ok-tells_spans.ensures.told c.if-branch.true) in
     on_ok c.remove_for_spans.result (λ takes. takes.loses) (c.remove_for_spans.ensures.ok (stated f owner c.args.pair) told)
 
 pub returns-then-branch-clause-checks : goal.returns-then-branch-clause-checks
@@ -62,8 +63,8 @@ returns-then-branch-clause-checks g c =
     let r = c.requires.revising in
     let f = c.args.filtering.now in
     let owner = active_of g.F.Filter.meaning c.args.constraint.now in
-    let told = reasons_told f r.0 owner c.args.pair r.1 c.requires.filled c.requires.present c.requires.lacking c.as_slice.result.now c.tells_spans.new.out.items
-    c.as_slice.ensures.value (c.in_ok-tells_spans.ensures c.if-branch.true) in
+    let told = reasons_told f r.0 owner c.args.pair r.1 c.requires.filled c.requires.present c.requires.lacking c.as_slice.result.now c.tells_spans.new.room.spans.items
+    c.as_slice.ensures.value (c.in_ok-tells_spans.ensures.told c.if-branch.true) in
     on_either c.remove_for_spans.result (λ takes. takes.checks) (λ same. ap (λ (h : Filtering). h.checks) same) (c.remove_for_spans.ensures.ok (stated f owner c.args.pair) told) c.remove_for_spans.ensures.err
 
 pub reason-requires-clause-formed : goal.reason-requires-clause-formed
@@ -103,3 +104,22 @@ returns-clause-gone g c = on_ok c.remove.result (λ takes. takes.loses) c.remove
 
 pub returns-clause-checks : goal.returns-clause-checks
 returns-clause-checks g c = on_either c.remove.result (λ takes. takes.checks) (λ same. ap (λ (f : Filtering). f.checks) same) c.remove.ensures.ok c.remove.ensures.err
+
+pub returns-then-branch-clause-knows : goal.returns-then-branch-clause-knows
+returns-then-branch-clause-knows g c =
+    let r = c.requires.revising in
+    let f = c.args.filtering.now in
+    let owner = active_of g.F.Filter.meaning c.args.constraint.now in
+    let told = reasons_told f r.0 owner c.args.pair r.1 c.requires.filled c.requires.present c.requires.lacking c.as_slice.result.now c.tells_spans.new.room.spans.items
+    c.as_slice.ensures.value (c.in_ok-tells_spans.ensures.told c.if-branch.true) in
+    on_ok c.remove_for_spans.result
+    (λ takes. knows_still f r.0 owner c.args.pair c.cid.result (stated f owner c.args.pair) c.remove_for_spans.new.self c.tells_spans.new.room r.1 takes c.in_ok-tells_spans.ensures.knows)
+    (c.remove_for_spans.ensures.ok (stated f owner c.args.pair) told)
+
+pub returns-clause-knows : goal.returns-clause-knows
+returns-clause-knows g c =
+    let r = c.requires.revising in
+    let owner = active_of g.F.Filter.meaning c.args.constraint.now in
+    on_ok c.remove.result
+    (λ takes. knows_still c.args.filtering.now r.0 owner c.args.pair c.cid-2.result c.as_slice-2.result.now c.remove.new.self c.tells_spans.new.room r.1 takes c.in_ok-tells_spans.ensures.knows)
+    c.remove.ensures.ok
