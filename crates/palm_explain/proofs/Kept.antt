@@ -1,8 +1,9 @@
 -- The entries that a withdrawal keeps.
-use Rattle.std.proofs.Common.{◌≡◌, ℕ, ◌<◌, ◌≤◌, true, false, not, List, [], ◌∷◌, length, Contains, inl, inr, refl, sym, ap, ◌∙◌, arith}
+use Rattle.std.proofs.Common.{◌≡◌, ℕ, ℤ, ◌<◌, ◌≤◌, ◌^◌, true, false, not, List, [], ◌∷◌, length, Contains, Some, inl, inr, refl, sym, ap, ◌∙◌, subst, arith}
 use Rattle.std.proofs.lemmas.Bool.{cases_Bool, false≢true}
 use Rattle.std.proofs.lemmas.List.Kept.{AllPairs-filter}
 use Rattle.palm_base.specs.declared.terms.Cid.{Cid}
+use Rattle.palm_base.specs.declared.terms.Pair.{Pair}
 use Rattle.palm_base.proofs.cited.Members.{filter_member, map_agree, member_filter, member_same}
 use Rattle.palm_events.proofs.cited.Agreeing.{pair_known}
 use Rattle.palm_explain.specs.declared.entry.Entry.{Entry}
@@ -11,10 +12,11 @@ use Rattle.palm_explain.specs.declared.rows.TheConstants.{NO_NUMBER}
 use Rattle.palm_explain.specs.declared.spans.Span.{Span}
 use Rattle.palm_explain.specs.Entries.{AreEntered, log_of, pairs_of, removal_of, span_values, written}
 use Rattle.palm_explain.specs.Losing.{AreMarkedBy, LosesNumbers, kept_of, marked_pairs}
+use Rattle.palm_explain.specs.Rows.{AreFormedRows, number_at}
 use Rattle.palm_model.specs.Log.{log_pairs}
 use Rattle.palm_explain.proofs.Keeping.{entry_marked}
-use Rattle.palm_explain.proofs.Marking.{pair_marked, span_stays}
-use Rattle.palm_explain.proofs.Reasons.{number_written, some_same, span_value, written_same}
+use Rattle.palm_explain.proofs.Marking.{pair_marked}
+use Rattle.palm_explain.proofs.Reasons.{number_written, some_same, span_same, span_value, value_span, written_same}
 
 -- the pairs of the log are those of the entries
 pub pairs_logged : (rows : List Row) (entries : List Entry) → log_pairs (log_of rows entries) ≡ pairs_of entries
@@ -30,6 +32,27 @@ kept_entry entries e m = let f = filter_member (λ (z : Entry). not z.mark) entr
 
 pub entry_kept : (entries : List Entry) (e : Entry) → Contains entries e → e.mark ≡ false → Contains (kept_of entries) e
 entry_kept entries e m is = member_filter (λ (z : Entry). not z.mark) entries e m (ap not is)
+
+-- ---- spans without a lost pair
+
+module _ (old new : List Row) (pairs : List Pair) (loses : LosesNumbers old new pairs) (formed : AreFormedRows old) (n : ℕ) (most : n ≤ NO_NUMBER) where
+  -- a number of now is that of a pair that is not lost
+  stays : (p : Pair) (k : ℕ) → number_at new p ≡ Some k → k < n → number_at old p ≡ Some k
+  stays p k is lt = elim (pair_known pairs p) [
+    | inl m ↦ let e = some_same k NO_NUMBER (sym is ∙ loses.gone p m) in absurd (omega (arith, e, lt, most))
+    | inr none ↦ sym (loses.others p none) ∙ is
+  ]
+
+  -- a span without a lost pair is as it was
+  span_stays : (s : Span) → ((v : ℤ) → Contains (span_values old n s) v → Contains pairs (record { var = s.var; value = v }) → ⊥) → span_values new n s ≡ span_values old n s
+  span_stays s none =
+      span_same old new n s formed loses.formed
+      (λ v k from to is lt.
+      let m = value_span old n s v (record { from = from; to = to; number = k; stands = is; before = lt }) in
+      loses.others (record { var = s.var; value = v }) (none v m) ∙ is)
+      (λ v k from to is lt. stays (record { var = s.var; value = v }) k is lt)
+
+-- ---- what is kept
 
 module _ (entries : List Entry) (rows now : List Row) (next : ℕ) (cid : Cid) (are : AreEntered entries rows next) (by : AreMarkedBy rows cid entries) (loses : LosesNumbers rows now (marked_pairs entries)) where
   -- a span of one that is kept has all its values
@@ -73,9 +96,5 @@ module _ (entries : List Entry) (rows now : List Row) (next : ℕ) (cid : Cid) (
         ]
       ]
     ];
-    counted = λ e m.
-        let c = are.counted e (kept_entry entries e m).0 in record {
-          fits = c.fits;
-          spans = λ s n. c.spans s n ∙ ap length (sym (kept_span e m s n));
-        };
+    countable = λ e m. subst (λ ps. length ps < 2 ^ 64) (sym (kept_written e m)) (are.countable e (kept_entry entries e m).0);
   }

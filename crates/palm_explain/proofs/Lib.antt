@@ -2,9 +2,11 @@ pub mod cited
 mod CidSets
 mod ClosingUp
 mod FirstNumbers
+mod Forgetting
 mod Keeping
 mod Kept
 mod Linked
+mod LostSpans
 mod MarkedSpans
 mod Marking
 mod NamedSome

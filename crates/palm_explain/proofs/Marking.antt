@@ -1,127 +1,25 @@
 -- Marks along the log: a pass up the log marks those that fall with the marked ones.
-use Rattle.std.proofs.Common.{◌≡◌, ◌⊎◌, ℕ, ℤ, zero, suc, ◌+◌, ◌<◌, ◌≤◌, ◌<ℤ◌, ◌≤ℤ◌, Bool, true, false, not, List, [], ◌∷◌, length, map, take, set, get_or, Contains, Some, slice_get, inl, inr, refl, sym, ap, ◌∙◌, subst, arith}
+use Rattle.std.proofs.Common.{◌≡◌, ◌⊎◌, ℕ, zero, suc, ◌+◌, ◌<◌, ◌≤◌, Bool, true, false, List, [], ◌∷◌, length, map, take, set, get_or, Contains, Some, slice_get, inl, inr, refl, sym, ap, ◌∙◌, subst, arith}
 use Rattle.std.proofs.lemmas.Bool.{cases_lt, false≢true}
-use Rattle.std.proofs.lemmas.Int.{ints}
 use Rattle.std.proofs.lemmas.Option.{slice_get_within}
 use Rattle.std.proofs.lemmas.List.{length-map}
-use Rattle.std.proofs.lemmas.List.Elements.{All-contains}
-use Rattle.palm_base.specs.Ascending.{Ascends}
 use Rattle.palm_base.specs.Tells.{Tells}
 use Rattle.palm_base.specs.declared.terms.Cid.{Cid}
 use Rattle.palm_base.specs.declared.terms.Pair.{Pair}
-use Rattle.palm_base.proofs.cited.Members.{any_known, member_cases, member_get, member_here, member_map, member_nil, member_place, member_same, member_tail, member_there, member_unmap, nat_known}
-use Rattle.palm_events.proofs.cited.Agreeing.{pair_known}
+use Rattle.palm_base.proofs.cited.Members.{member_get, member_here, member_map, member_place, member_same, member_there, member_unmap}
+use Rattle.palm_domain.specs.Rows.{Row as DomainRow}
 use Rattle.palm_explain.specs.declared.entry.Entry.{Entry}
 use Rattle.palm_explain.specs.declared.restored.Restored.{Restored}
 use Rattle.palm_explain.specs.declared.rows.Row.{Row}
-use Rattle.palm_explain.specs.declared.rows.TheConstants.{NO_NUMBER}
-use Rattle.palm_explain.specs.declared.spans.Span.{Span}
-use Rattle.palm_explain.specs.Entries.{AreEntered, AreUnmarked, removal_of, log_of, span_values, written}
-use Rattle.palm_explain.specs.Explanations.{AreEnds, IsSpanned}
-use Rattle.palm_explain.specs.Losing.{AreMarkedBy, FallsWith, IsShort, IsTold, LosesNumbers, StandsWithin, marked_pairs, unmarked}
-use Rattle.palm_explain.specs.Rows.{AreFormedRows, number_at}
+use Rattle.palm_explain.specs.Entries.{AreEntered, AreUnmarked, removal_of, log_of, pairs_of, written}
+use Rattle.palm_explain.specs.Explanations.{LacksExactly}
+use Rattle.palm_explain.specs.Losing.{AreMarkedBy, AreToldBefore, FallsWith, marked_pairs, unmarked}
+use Rattle.palm_explain.specs.Rows.{number_at}
 use Rattle.palm_explain.proofs.Keeping.{entry_marked, marked_entry, told_true, true_told}
 use Rattle.palm_explain.proofs.PuttingBack.{IsOneMore}
-use Rattle.palm_explain.proofs.Reasons.{IsSpanValue, entry_rises, map_place, number_written, pair_once, reason_entry, some_same, span_ascends, span_same, span_value, value_span, written_number}
+use Rattle.palm_explain.proofs.Reasons.{entry_numbered, entry_rises, map_place, pair_once, reason_entry, some_same}
+use Rattle.palm_explain.proofs.Returning.{IsPutBack, come_back}
 use Rattle.palm_explain.proofs.RowSpans.{take_place}
-
--- ---- ascending lists, one in the other
-
-above : (y : ℤ) (ys : List ℤ) (v : ℤ) → Ascends (y ∷ ys) → Contains ys v → y <ℤ v
-above y ys v a m = All-contains (λ w. y <ℤ w) ys v a.0 m
-
--- what is left of one behind the first of the other
-tail_in : (x : ℤ) (xs : List ℤ) (y : ℤ) (ys : List ℤ) → Ascends (x ∷ xs) → ((v : ℤ) → Contains (x ∷ xs) v → Contains (y ∷ ys) v) → y ≡ x → (v : ℤ) → Contains xs v → Contains ys v
-tail_in x xs y ys a in-other same v m =
-    member_tail y ys v (λ e. let lt = above x xs v a m in omega (arith, ints, lt, same, e)) (in-other v (member_there x xs v m))
-
--- where the first of the one stands behind that of the other, all of it does
-all_behind : (x : ℤ) (xs : List ℤ) (y : ℤ) (ys : List ℤ) → Ascends (x ∷ xs) → Ascends (y ∷ ys) → ((v : ℤ) → Contains (x ∷ xs) v → Contains (y ∷ ys) v) → Contains ys x → (v : ℤ) → Contains (x ∷ xs) v → Contains ys v
-all_behind x xs y ys a b in-other here v m =
-    let lt = above y ys x b here in
-    member_tail y ys v (λ e. elim (member_cases x xs v m) [
-      | inl f ↦ omega (arith, ints, lt, e, f)
-      | inr n ↦ let more = above x xs v a n in omega (arith, ints, lt, more, e)
-    ]) (in-other v m)
-
-at_most : (ys xs : List ℤ) → Ascends xs → Ascends ys → ((v : ℤ) → Contains xs v → Contains ys v) → length xs ≤ length ys
-at_most ys [] a b in-other = omega arith
-at_most [] (x ∷ xs) a b in-other = absurd (member_nil x (in-other x (member_here x xs)))
-at_most (y ∷ ys) (x ∷ xs) a b in-other = elim (member_cases y ys x (in-other x (member_here x xs))) [
-  | inl e ↦ let le = at_most ys xs a.1 b.1 (tail_in x xs y ys a in-other e) in omega (arith, le)
-  | inr m ↦ let le = at_most ys (x ∷ xs) a b.1 (all_behind x xs y ys a b in-other m) in omega (arith, le)
-]
-
--- as many as in the other are all of it
-pub as_many : (ys xs : List ℤ) → Ascends xs → Ascends ys → ((v : ℤ) → Contains xs v → Contains ys v) → length xs ≡ length ys → (v : ℤ) → Contains ys v → Contains xs v
-as_many [] xs a b in-other same v m = absurd (member_nil v m)
-as_many (y ∷ ys) [] a b in-other same v m = absurd (omega (arith, same))
-as_many (y ∷ ys) (x ∷ xs) a b in-other same v m = elim (member_cases y ys x (in-other x (member_here x xs))) [
-  | inl e ↦ elim (member_cases y ys v m) [
-    | inl f ↦ member_same (x ∷ xs) x v (sym e ∙ f) (member_here x xs)
-    | inr n ↦ member_there x xs v (as_many ys xs a.1 b.1 (tail_in x xs y ys a in-other e) (omega (arith, same)) v n)
-  ]
-  | inr n ↦ let le = at_most ys (x ∷ xs) a b.1 (all_behind x xs y ys a b in-other n) in absurd (omega (arith, le, same))
-]
-
--- ---- a span that has not as many any more
-
-abbrev span_pair : Span → ℤ → Pair
-span_pair s v = record { var = s.var; value = v }
-
--- the span's values of the rows of now are among those of the rows before
-module _ (old new : List Row) (pairs : List Pair) (loses : LosesNumbers old new pairs) (formed : AreFormedRows old) (n : ℕ) (most : n ≤ NO_NUMBER) where
-  -- a number of now is that of a pair that is not lost
-  stays : (p : Pair) (k : ℕ) → number_at new p ≡ Some k → k < n → number_at old p ≡ Some k
-  stays p k is lt = elim (pair_known pairs p) [
-    | inl m ↦ let e = some_same k NO_NUMBER (sym is ∙ loses.gone p m) in absurd (omega (arith, e, lt, most))
-    | inr none ↦ sym (loses.others p none) ∙ is
-  ]
-
-  span_fewer : (s : Span) (v : ℤ) → Contains (span_values new n s) v → Contains (span_values old n s) v
-  span_fewer s v m =
-      let is = span_value new n s v m in
-      value_span old n s v (record { from = is.from; to = is.to; number = is.number; stands = stays (record { var = s.var; value = v }) is.number is.stands is.before; before = is.before })
-
-  -- a span that is as long as before has no lost pair
-  span_whole : (s : Span) (p : Pair) → length (span_values new n s) ≡ length (span_values old n s) → s.var ≡ p.var → IsSpanValue old n s p.value → Contains pairs p → ⊥
-  span_whole s p same var is lost =
-      let m = as_many (span_values old n s) (span_values new n s) (span_ascends new n s loses.formed) (span_ascends old n s formed) (span_fewer s) same p.value (value_span old n s p.value is) in
-      let now = span_value new n s p.value m in
-      let whole : record { var = s.var; value = p.value } ≡ p = λ i. record { var = var i; value = p.value } in
-      let e = some_same now.number NO_NUMBER (sym now.stands ∙ ap (number_at new) whole ∙ loses.gone p lost) in
-      let lt = now.before in absurd (omega (arith, e, lt, most))
-
-  -- a span without a lost pair is as it was
-  pub span_stays : (s : Span) → ((v : ℤ) → Contains (span_values old n s) v → Contains pairs (record { var = s.var; value = v }) → ⊥) → span_values new n s ≡ span_values old n s
-  span_stays s none =
-      span_same old new n s formed loses.formed
-      (λ v k from to is lt.
-      let m = value_span old n s v (record { from = from; to = to; number = k; stands = is; before = lt }) in
-      loses.others (record { var = s.var; value = v }) (none v m) ∙ is)
-      (λ v k from to is lt. stays (record { var = s.var; value = v }) k is lt)
-
--- the constraint made the removal, or a span of it is short, exactly where it falls with the lost pairs
-module _ (entries : List Entry) (rows now : List Row) (next : ℕ) (are : AreEntered entries rows next) (cid : Cid) (pairs : List Pair) (loses : LosesNumbers rows now pairs) (e : Entry) (m : Contains entries e) where
-  low : e.number ≤ NO_NUMBER
-  low = let b = are.below e m in let most = are.most in omega (arith, b, most)
-
-  pub short_falls : IsShort now cid e → FallsWith rows cid pairs e
-  short_falls short = elim short [
-    | inl by ↦ inl by
-    | inr s ↦ elim (any_known (λ v. Contains pairs (span_pair s.0 v)) (span_values rows e.number s.0) (λ v k. pair_known pairs (span_pair s.0 v))) [
-      | inl v ↦ inr (span_pair s.0 v.0, number_written rows e.number e.spans.items s.0 (span_pair s.0 v.0) s.1 refl (span_value rows e.number s.0 v.0 v.1), v.2)
-      | inr none ↦ absurd (s.2 (ap length (span_stays rows now pairs loses are.formed e.number low s.0 none) ∙ sym ((are.counted e m).spans s.0 s.1)))
-    ]
-  ]
-
-  pub falls_short : FallsWith rows cid pairs e → IsShort now cid e
-  falls_short falls = elim falls [
-    | inl by ↦ inl by
-    | inr p ↦
-        let w = written_number rows e.number e.spans.items p.0 p.1 in
-        inr (w.0, w.1, λ same. span_whole rows now pairs loses are.formed e.number low w.0 p.0 (same ∙ (are.counted e m).spans w.0 w.1) w.2 w.3 p.2)
-  ]
 
 -- ---- places
 
@@ -165,7 +63,7 @@ taken_member (y ∷ xs) (suc n) (suc i) x at lt = member_there y (take n xs) x (
 
 -- ---- marks
 
-tells_like : (b : Bool) (P Q : Type 0) → (b ≡ true → P → Q) → (b ≡ false → Q → P) → Tells b P → Tells b Q
+pub tells_like : (b : Bool) (P Q : Type 0) → (b ≡ true → P → Q) → (b ≡ false → Q → P) → Tells b P → Tells b Q
 tells_like true P Q to back t = to refl t
 tells_like false P Q to back t = λ q. t (back refl q)
 
@@ -308,44 +206,35 @@ module _ (rows : List Row) (cid : Cid) (all : List Entry) (next : ℕ) (are : Ar
     there = there true refl;
   }
 
-  -- what is told of the variables tells of its spans
-  pub spans_told : (now : List Row) (restored : List Restored) → LosesNumbers rows now (marked_pairs entries) → ((p : Pair) → Contains (marked_pairs entries) p → IsSpanned restored p) → AreEnds restored (marked_pairs entries)
-      → (s : Span) → Contains e.spans.items s → IsTold now restored e.number s
-  spans_told now restored loses spanned ends s there =
-      let pairs = marked_pairs entries in
-      let below-next = are.below (unmarked e) here in
-      let most = are.most in
-      let low : e.number ≤ NO_NUMBER = omega (arith, below-next, most) in
-      let count = (are.counted (unmarked e) here).spans s there in
-      let lost : (v : ℤ) → Contains pairs (span_pair s v) → StandsWithin s v → length (span_values now e.number s) ≡ s.count → ⊥ = λ v m within same.
-      let g = marked_entry entries (span_pair s v) m in
-      let i = member_place entries g.0 g.1 in
-      let lt : i.0 < place = elim (cases_lt i.0 place) [
-        | inl l ↦ l
-        | inr le ↦ absurd (false≢true (sym (below.later i.0 g.0 i.1 (omega (arith, le))) ∙ g.3))
-      ] in
-      let earlier = entry_rises all are.rises i.0 place (unmarked g.0) (unmarked e) lt (among i.0 g.0 i.1) (among place e at) in
-      let found = are.found (unmarked g.0) (member_get all i.0 (unmarked g.0) (among i.0 g.0 i.1)) in
-      span_whole rows now pairs loses are.formed e.number low s (span_pair s v) (same ∙ count) refl
-      (record { from = within.0; to = within.1; number = g.0.number; stands = ap (number_at rows) (sym g.2) ∙ found; before = earlier }) m in record {
-        apart = λ none.
-            ap length (span_stays rows now pairs loses are.formed e.number low s (λ v m marked.
-            let is = span_value rows e.number s v m in
-            let r = spanned (span_pair s v) marked in
-            let from = is.from in
-            let to = is.to in
-            let above : r.0.low ≤ℤ v = r.3 in
-            let under : v ≤ℤ r.0.high = r.4 in
-            none r.0 r.1 r.2 (omega (arith, ints, above, to), omega (arith, ints, under, from)))) ∙ sym count;
-        meets = λ r m var end same.
-            let both = ends r m in
-            let here-low : record { var = r.var; value = r.low } ≡ span_pair s r.low = λ i. record { var = var i; value = r.low } in
-            let here-high : record { var = r.var; value = r.high } ≡ span_pair s r.high = λ i. record { var = var i; value = r.high } in
-            elim end [
-              | inl w ↦ lost r.low (member_same pairs (record { var = r.var; value = r.low }) (span_pair s r.low) here-low both.0) w same
-              | inr w ↦ lost r.high (member_same pairs (record { var = r.var; value = r.high }) (span_pair s r.high) here-high both.1) w same
-            ];
-      }
+  -- what is back so far is what was removed before it and is present
+  told_before : (now : List Row) (restored : List Restored) (before after : List DomainRow) → LacksExactly before (pairs_of all) → IsPutBack rows now before after restored (marked_pairs entries) → AreToldBefore now restored after e.number (marked_pairs entries)
+  told_before now restored before after lacks put = record {
+    spanned = put.spanned;
+    ends = put.ends;
+    removed = λ p m.
+        let g = marked_entry entries p m in
+        let i = member_place entries g.0 g.1 in
+        let lt : i.0 < place = elim (cases_lt i.0 place) [
+          | inl l ↦ l
+          | inr le ↦ absurd (false≢true (sym (below.later i.0 g.0 i.1 (omega (arith, le))) ∙ g.3))
+        ] in
+        let found = are.found (unmarked g.0) (member_get all i.0 (unmarked g.0) (among i.0 g.0 i.1)) in (
+          g.0.number,
+          put.numbers.numbers p ∙ ap (number_at rows) (sym g.2) ∙ found,
+          entry_rises all are.rises i.0 place (unmarked g.0) (unmarked e) lt (among i.0 g.0 i.1) (among place e at),
+        );
+    present = put.back.back;
+    only = λ p k is lt there.
+        let under = are.below (unmarked e) here in
+        let most = are.most in
+        let f = entry_numbered all rows next e.number p k are (sym (put.numbers.numbers p) ∙ is) lt (omega (arith, under, most)) in
+        come_back before after (marked_pairs entries) (pairs_of all) p lacks put.back (member_same (pairs_of all) f.0.pair p f.2 (member_map (λ (z : Entry). z.pair) all f.0 f.1)) there;
+  }
+
+  pub told_now : (now rs : List Row) (restored list : List Restored) (before after : List DomainRow) → LacksExactly before (pairs_of all) → IsPutBack rows now before after restored (marked_pairs entries) → now ≡ rs → restored ≡ list
+      → AreToldBefore rs list after e.number (marked_pairs entries)
+  told_now now rs restored list before after lacks put a b =
+      subst (λ rows. AreToldBefore rows list after e.number (marked_pairs entries)) a (subst (λ told. AreToldBefore now told after e.number (marked_pairs entries)) b (told_before now restored before after lacks put))
 
   -- one that stays without a mark
   pub marked_none : start ≤ place → (FallsWith rows cid (marked_pairs entries) e → ⊥) → IsMarkedBelow rows cid all start entries (place + 1)
@@ -389,7 +278,7 @@ entered_also es rows next are = record {
         let g = member_unmap unmarked es f.0 f.1 in
         inr (g.0, g.1, ap (λ (z : Entry). z.pair) g.2 ∙ f.2, ap (λ (z : Entry). z.number) g.2 ∙ f.3)
   ];
-  counted = λ e m. let c = are.counted (unmarked e) (member_map unmarked es e m) in record { fits = c.fits; spans = c.spans };
+  countable = λ e m. are.countable (unmarked e) (member_map unmarked es e m);
 }
 
 -- marks are no part of what is entered
@@ -431,12 +320,3 @@ bare_length all entries place below = sym (length-map entries unmarked) ∙ ap l
 pub bare_all : (all entries : List Entry) (place : ℕ) → AreBareBelow all entries place → length entries ≤ place → entries ≡ map unmarked all
 bare_all all entries place below le =
     sym (all_unmarked entries (λ e m. let i = member_place entries e m in let lt = slice_get_within entries i.0 e i.1 in below.none i.0 e i.1 (omega (arith, le, lt)))) ∙ below.same
-
--- ---- tests
-
-pub tells_other : (b : Bool) (P : Type 0) → Tells b P → Tells (not b) (P → ⊥)
-tells_other true P p = λ n. n p
-tells_other false P n = n
-
-pub not_apart : (m n : ℕ) → ((m ≡ n → ⊥) → ⊥) → m ≡ n
-not_apart m n sure = elim (nat_known m n) [ inl e ↦ e | inr apart ↦ absurd (sure apart) ]

@@ -104,7 +104,7 @@ module _ (rows : List Row) (s : Span) (n : ℕ) where
   }
 
   abbrev part : ℤ → ℤ → Span
-  part low high = record { var = s.var; low = low; high = high; count = s.count }
+  part low high = record { var = s.var; low = low; high = high }
 
   part_reason : (low high : ℤ) → s.low ≤ℤ low → high ≤ℤ s.high → (p : Pair) → Contains (span_pairs rows n (part low high)) p → Contains (span_pairs rows n s) p
   part_reason low high from to p m =

@@ -1,15 +1,22 @@
--- Pairs that come back, and numbers that go.
-use Rattle.std.proofs.Common.{◌≡◌, List, [], ◌∷◌, Contains, Some, ◌⊎◌, inl, inr, refl, sym, ◌∙◌, subst}
+-- Pairs that come back, and numbers that stay and go.
+use Rattle.std.proofs.Common.{◌≡◌, ℕ, Bool, List, [], ◌∷◌, ◌++◌, Contains, Some, ◌⊎◌, inl, inr, refl, sym, ◌∙◌, subst}
+use Rattle.std.proofs.lemmas.List.Elements.{Contains-append_cases, Contains-append_left, Contains-append_right}
+use Rattle.palm_base.specs.Tells.{Tells}
+use Rattle.palm_base.specs.declared.terms.Cid.{Cid}
 use Rattle.palm_base.specs.declared.terms.Pair.{Pair}
-use Rattle.palm_base.proofs.cited.Members.{member_nil, member_here, member_cases, member_same, nat_known, int_known}
+use Rattle.palm_base.proofs.cited.Members.{member_nil, member_here, member_cases, member_same, member_single, nat_known, int_known}
 use Rattle.palm_domain.specs.Rows.{Row as DomainRow, GainsPair, IsPresent, initial_of}
 use Rattle.palm_model.proofs.cited.Without.{pair_of}
 use Rattle.palm_events.proofs.cited.Agreeing.{pair_known}
+use Rattle.palm_explain.specs.declared.entry.Entry.{Entry}
 use Rattle.palm_explain.specs.declared.rows.Row.{Row}
 use Rattle.palm_explain.specs.declared.rows.TheConstants.{NO_NUMBER}
-use Rattle.palm_explain.specs.Losing.{HasBack, LosesNumbers}
+use Rattle.palm_explain.specs.declared.spans.Span.{Span}
+use Rattle.palm_explain.specs.Entries.{written}
+use Rattle.palm_explain.specs.Losing.{FallsWith, HasBack, LosesNumbers}
 use Rattle.palm_explain.specs.Restored.{KeepsNumbers}
 use Rattle.palm_explain.specs.Rows.{AreFormedRows, number_at}
+use Rattle.palm_explain.proofs.Reasons.{span_same, written_same}
 
 -- ---- pairs that are back
 
@@ -56,34 +63,50 @@ back_next before middle after ps qs p more one two = record {
   ];
 }
 
+-- ---- numbers that stay
+
+pub keeps_none : (rows : List Row) → KeepsNumbers rows rows
+keeps_none rows = record { long = refl; formed = λ formed. formed; numbers = λ p. refl }
+
+pub keeps_next : (old middle new : List Row) → KeepsNumbers old middle → KeepsNumbers middle new → KeepsNumbers old new
+keeps_next old middle new one two = record {
+  long = two.long ∙ one.long;
+  formed = λ formed. two.formed (one.formed formed);
+  numbers = λ p. two.numbers p ∙ one.numbers p;
+}
+
+-- rows with the same numbers have the same reasons
+pub keeps_written : (old new : List Row) (n : ℕ) (spans : List Span) → AreFormedRows old → KeepsNumbers old new → written new n spans ≡ written old n spans
+keeps_written old new n spans formed keeps =
+    written_same old new n spans (λ s m. span_same old new n s formed (keeps.formed formed)
+    (λ v k from to is lt. keeps.numbers (record { var = s.var; value = v }) ∙ is) (λ v k from to is lt. sym (keeps.numbers (record { var = s.var; value = v })) ∙ is))
+
+-- so the same entries fall
+pub keeps_falls : (old new : List Row) (cid : Cid) (pairs : List Pair) (e : Entry) → AreFormedRows old → KeepsNumbers old new → (b : Bool) → Tells b (FallsWith new cid pairs e) → Tells b (FallsWith old cid pairs e)
+keeps_falls old new cid pairs e formed keeps b =
+    subst (λ ps. Tells b ((e.by ≡ cid) ⊎ ((p : Pair) × Contains ps p × Contains pairs p))) (keeps_written old new e.number e.spans.items formed keeps)
+
 -- ---- numbers that are gone
 
 pub loses_none : (rows : List Row) → AreFormedRows rows → LosesNumbers rows rows []
 loses_none rows formed = record { formed = formed; gone = λ p m. absurd (member_nil p m); others = λ p n. refl }
 
-pub loses_one : (old middle new : List Row) (p : Pair) → AreFormedRows middle → number_at middle p ≡ Some NO_NUMBER → ((q : Pair) → (q ≡ p → ⊥) → number_at middle q ≡ number_at old q) → KeepsNumbers middle new → LosesNumbers old new (p ∷ [])
-loses_one old middle new p formed there others keeps = record {
-  formed = keeps.formed formed;
-  gone = λ q m. elim (member_cases p [] q m) [
-    | inl e ↦ subst (λ z. number_at new z ≡ Some NO_NUMBER) e (keeps.numbers p ∙ there)
-    | inr k ↦ absurd (member_nil q k)
-  ];
-  others = λ q n. keeps.numbers q ∙ others q (λ e. n (member_same (p ∷ []) p q (sym e) (member_here p [])));
+pub loses_one : (old new : List Row) (p : Pair) → AreFormedRows new → number_at new p ≡ Some NO_NUMBER → ((q : Pair) → (q ≡ p → ⊥) → number_at new q ≡ number_at old q) → LosesNumbers old new (p ∷ [])
+loses_one old new p formed there others = record {
+  formed = formed;
+  gone = λ q m. subst (λ z. number_at new z ≡ Some NO_NUMBER) (member_single p q m) there;
+  others = λ q n. others q (λ e. n (member_same (p ∷ []) p q (sym e) (member_here p [])));
 }
 
-pub loses_next : (old middle new : List Row) (ps qs : List Pair) (p : Pair) → IsOneMore ps p qs → LosesNumbers old middle ps → LosesNumbers middle new (p ∷ []) → LosesNumbers old new qs
-loses_next old middle new ps qs p more one two = record {
+pub loses_then : (old middle new : List Row) (ps qs : List Pair) → LosesNumbers old middle ps → LosesNumbers middle new qs → LosesNumbers old new (ps ++ qs)
+loses_then old middle new ps qs one two = record {
   formed = two.formed;
-  gone = λ q m. elim (pair_known (p ∷ []) q) [
-    | inl k ↦ two.gone q k
-    | inr n ↦ elim (more.some q m) [
-      | inl k ↦ two.others q n ∙ one.gone q k
-      | inr e ↦ absurd (n (member_same (p ∷ []) p q e (member_here p [])))
-    ]
+  gone = λ p m. elim (pair_known qs p) [
+    | inl k ↦ two.gone p k
+    | inr n ↦ elim (Contains-append_cases ps qs p m) [ inl k ↦ two.others p n ∙ one.gone p k | inr k ↦ absurd (n k) ]
   ];
-  others = λ q n.
-      two.others q (λ k. elim (member_cases p [] q k) [
-        | inl e ↦ n (member_same qs p q e more.there)
-        | inr j ↦ absurd (member_nil q j)
-      ]) ∙ one.others q (λ k. n (more.old q k));
+  others = λ p n. two.others p (λ k. n (Contains-append_right ps qs p k)) ∙ one.others p (λ k. n (Contains-append_left ps qs p k));
 }
+
+pub keeps_loses : (old middle new : List Row) (pairs : List Pair) → KeepsNumbers old middle → LosesNumbers middle new pairs → LosesNumbers old new pairs
+keeps_loses old middle new pairs keeps loses = record { formed = loses.formed; gone = loses.gone; others = λ p n. loses.others p n ∙ keeps.numbers p }

@@ -1,5 +1,5 @@
 -- What a withdrawal has put back so far, and what it tells of it.
-use Rattle.std.proofs.Common.{◌≡◌, ◌⊎◌, ℕ, List, [], ◌∷◌, Contains, Some, inl, inr, refl, sym, ◌∙◌, subst}
+use Rattle.std.proofs.Common.{◌≡◌, ◌⊎◌, ℕ, List, [], ◌∷◌, Contains, inl, inr, refl, sym, subst}
 use Rattle.palm_base.specs.declared.terms.Pair.{Pair}
 use Rattle.palm_base.proofs.cited.Members.{member_here, member_map, member_nil, member_same, member_unmap}
 use Rattle.palm_domain.specs.Rows.{Row as DomainRow, IsDeclared, IsPresent}
@@ -9,29 +9,28 @@ use Rattle.palm_model.proofs.cited.Without.{without_has}
 use Rattle.palm_explain.specs.declared.restored.Restored.{Restored}
 use Rattle.palm_explain.specs.declared.rows.Row.{Row}
 use Rattle.palm_explain.specs.Explanations.{AreEnds, IsSpanned, LacksExactly, restored_vars}
-use Rattle.palm_explain.specs.Losing.{HasBack, LosesNumbers}
-use Rattle.palm_explain.specs.Restored.{AreSlotted}
-use Rattle.palm_explain.specs.Rows.{AreFormedRows, number_at}
-use Rattle.palm_explain.proofs.PuttingBack.{IsOneMore, back_next, back_none, loses_next, loses_none}
+use Rattle.palm_explain.specs.Losing.{HasBack}
+use Rattle.palm_explain.specs.Restored.{AreSlotted, KeepsNumbers}
+use Rattle.palm_explain.proofs.PuttingBack.{IsOneMore, back_next, back_none, keeps_next, keeps_none}
 use Rattle.palm_explain.proofs.Slots.{none_slotted}
 
--- exactly these pairs are back and have no number any more, and their variables alone are noted
+-- exactly these pairs are back, their variables alone are noted, and no number has changed
 pub record IsPutBack (rows now : List Row) (before after : List DomainRow) (restored : List Restored) (pairs : List Pair) : Type 0 where
-  pub numbers : LosesNumbers rows now pairs
+  pub numbers : KeepsNumbers rows now
   pub back : HasBack before after pairs
   pub slots : AreSlotted now restored
   pub noted : (x : ℕ) → Contains (restored_vars restored) x → Contains (vars_of pairs) x
   pub spanned : (p : Pair) → Contains pairs p → IsSpanned restored p
   pub ends : AreEnds restored pairs
 
-no_pair : (pairs : List Pair) → ((p : Pair) → Contains pairs p → ⊥) → pairs ≡ []
+pub no_pair : (pairs : List Pair) → ((p : Pair) → Contains pairs p → ⊥) → pairs ≡ []
 no_pair [] none = refl
 no_pair (p ∷ pairs) none = absurd (none p (member_here p pairs))
 
-pub put_none : (rows : List Row) (store : List DomainRow) (restored : List Restored) (pairs : List Pair) → AreFormedRows rows → restored ≡ [] → ((p : Pair) → Contains pairs p → ⊥) → IsPutBack rows rows store store restored pairs
-put_none rows store restored pairs formed is none =
+pub put_none : (rows : List Row) (store : List DomainRow) (restored : List Restored) (pairs : List Pair) → restored ≡ [] → ((p : Pair) → Contains pairs p → ⊥) → IsPutBack rows rows store store restored pairs
+put_none rows store restored pairs is none =
     subst (λ ps. IsPutBack rows rows store store restored ps) (sym (no_pair pairs none)) (subst (λ rs. IsPutBack rows rows store store rs []) (sym is) (record {
-      numbers = loses_none rows formed;
+      numbers = keeps_none rows;
       back = back_none store;
       slots = none_slotted rows;
       noted = λ x m. absurd (member_nil x m);
@@ -40,11 +39,11 @@ put_none rows store restored pairs formed is none =
     }))
 
 pub put_next : (rows middle now : List Row) (before between after : List DomainRow) (restored later : List Restored) (ps qs : List Pair) (p : Pair) → IsOneMore ps p qs → IsPutBack rows middle before between restored ps
-    → LosesNumbers middle now (p ∷ []) → HasBack between after (p ∷ []) → AreSlotted now later
+    → KeepsNumbers middle now → HasBack between after (p ∷ []) → AreSlotted now later
     → ((x : ℕ) → Contains (restored_vars later) x → Contains (restored_vars restored) x ⊎ (p.var ≡ x)) → ((q : Pair) → IsSpanned restored q ⊎ (p ≡ q) → IsSpanned later q)
     → ((pairs : List Pair) → AreEnds restored pairs → Contains pairs p → AreEnds later pairs) → IsPutBack rows now before after later qs
 put_next rows middle now before between after restored later ps qs p more is numbers back slots noted spanned ends = record {
-  numbers = loses_next rows middle now ps qs p more is.numbers numbers;
+  numbers = keeps_next rows middle now is.numbers numbers;
   back = back_next before between after ps qs p more is.back back;
   slots = slots;
   noted = λ x m. elim (noted x m) [
@@ -61,14 +60,15 @@ put_next rows middle now before between after restored later ps qs p more is num
 pub still_declared : (before after : List DomainRow) (pairs all : List Pair) (p : Pair) → LacksExactly before all → HasBack before after pairs → Contains all p → IsDeclared after p.var p.value
 still_declared before after pairs all p lacks back m = subst (λ d. Has d p.var p.value) (sym back.initial) (lacks.declared p m)
 
-pub still_out : (before after : List DomainRow) (pairs all : List Pair) (p : Pair) → LacksExactly before all → HasBack before after pairs → Contains all p → (Contains pairs p → ⊥) → IsPresent after p.var p.value → ⊥
-still_out before after pairs all p lacks back m none there = elim (back.sound p.var p.value there) [
-  | inl was ↦ (without_has _ all p.var p.value (subst (λ d. Has d p.var p.value) lacks.present was)).1 m
-  | inr k ↦ none k
+-- one that was taken out and is present has come back
+pub come_back : (before after : List DomainRow) (pairs all : List Pair) (p : Pair) → LacksExactly before all → HasBack before after pairs → Contains all p → IsPresent after p.var p.value → Contains pairs p
+come_back before after pairs all p lacks back m there = elim (back.sound p.var p.value there) [
+  | inl was ↦ absurd ((without_has _ all p.var p.value (subst (λ d. Has d p.var p.value) lacks.present was)).1 m)
+  | inr k ↦ k
 ]
 
-pub still_numbered : (rows now : List Row) (pairs : List Pair) (p : Pair) (k : ℕ) → LosesNumbers rows now pairs → (Contains pairs p → ⊥) → number_at rows p ≡ Some k → number_at now p ≡ Some k
-still_numbered rows now pairs p k loses none is = loses.others p none ∙ is
+pub still_out : (before after : List DomainRow) (pairs all : List Pair) (p : Pair) → LacksExactly before all → HasBack before after pairs → Contains all p → (Contains pairs p → ⊥) → IsPresent after p.var p.value → ⊥
+still_out before after pairs all p lacks back m none there = none (come_back before after pairs all p lacks back m there)
 
 -- the same of what is the same
 pub put_same : (rows now : List Row) (before after : List DomainRow) (restored : List Restored) (pairs : List Pair) (now2 : List Row) (after2 : List DomainRow) (restored2 : List Restored) (pairs2 : List Pair)

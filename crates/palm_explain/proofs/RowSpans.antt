@@ -1,11 +1,12 @@
 -- The removals of a span in one row: what is left of them from a place on.
-use Rattle.std.proofs.Common.{◌≡◌, ℕ, ℤ, zero, suc, ◌+◌, ◌-◌, ◌<◌, ◌≤◌, ◌<ℤ◌, ◌≤ℤ◌, Bool, true, false, ◌&&◌, int_le, int_cmp, is_lt, cond, List, [], ◌∷◌, ◌++◌, length, drop, take, filter, get_or, Contains, Option, Some, None, IfSome, slice_get, inl, inr, refl, sym, ap, ◌∙◌, subst, arith}
+use Rattle.std.proofs.Common.{◌≡◌, ℕ, ℤ, zero, suc, ◌+◌, ◌-◌, ◌<◌, ◌≤◌, ◌<ℤ◌, ◌≤ℤ◌, Bool, true, false, ◌&&◌, int_le, int_cmp, is_lt, cond, List, [], ◌∷◌, ◌++◌, length, drop, take, filter, get_or, Contains, Some, slice_get, inl, inr, refl, sym, ap, ◌∙◌, subst, arith}
 use Rattle.std.specs.List.{AllWithin}
 use Rattle.std.specs.List.Sorted.{IsPartitionedBy}
-use Rattle.std.proofs.lemmas.Bool.{cases_Bool, cases_lt, lt-ltb, le-ltb}
+use Rattle.std.proofs.lemmas.Bool.{cases_Bool, lt-ltb, le-ltb}
 use Rattle.std.proofs.lemmas.Int.{ints}
-use Rattle.std.proofs.lemmas.List.{append_assoc, drop_all, drop_more, get_or_default, length-append, length-drop, length-map, length-take, take-append-drop}
-use Rattle.std.proofs.lemmas.List.Elements.{filter-append, Contains-push_cases}
+use Rattle.std.proofs.lemmas.List.{append_assoc, drop_all, drop_more, length-append, length-map, take-append-drop, take_more}
+use Rattle.std.proofs.lemmas.List.Elements.{filter-append}
+use Rattle.std.proofs.lemmas.List.Folds.{length-flat_map-take}
 use Rattle.std.proofs.Math.Seq.{take-add}
 use Rattle.std.proofs.lemmas.Option.{slice_get_within, get_or_from_slice_get}
 use Rattle.palm_base.specs.Ascending.{Ascends}
@@ -14,10 +15,10 @@ use Rattle.palm_domain.proofs.cited.Ascending.{get_or-rises, get_or-ascends}
 use Rattle.palm_domain.proofs.cited.Comparisons.{lt_from_is_lt, ge_from_is_lt}
 use Rattle.palm_explain.specs.declared.rows.Row.{Row}
 use Rattle.palm_base.specs.declared.terms.Pair.{Pair}
-use Rattle.palm_explain.specs.Entries.{AreSpansOf, pairs_with, row_span, span_pairs, span_values, written}
+use Rattle.palm_explain.specs.Entries.{pairs_with, row_span, span_pairs, span_values, written}
 use Rattle.palm_explain.specs.declared.spans.Span.{Span}
-use Rattle.palm_explain.specs.Rows.{IsFormedRow, IsNext, StandsAt, is_less, number_in, rest_in, span_in}
-use Rattle.palm_explain.proofs.Reasons.{get_first, map_place, number_less, some_same}
+use Rattle.palm_explain.specs.Rows.{IsFormedRow, IsNext, is_less, number_in, rest_in, span_in}
+use Rattle.palm_explain.proofs.Reasons.{get_first, number_less, some_same}
 
 -- ---- tests of all
 
@@ -35,22 +36,6 @@ filter_shorter p (x ∷ xs) = let rest = filter_shorter p xs in elim (cases_Bool
   | inl t ↦ let e = ap (λ b. length (cond b (x ∷ filter p xs) (filter p xs))) t in omega (arith, e, rest)
   | inr f ↦ let e = ap (λ b. length (cond b (x ∷ filter p xs) (filter p xs))) f in omega (arith, e, rest)
 ]
-
--- where none is left out all pass
-filter_full : {X : Type 0} (p : X → Bool) (xs : List X) → length xs ≤ length (filter p xs) → filter p xs ≡ xs
-filter_full p [] le = refl
-filter_full p (x ∷ xs) le = let rest = filter_shorter p xs in elim (cases_Bool (p x)) [
-  | inl t ↦
-      let e = ap (λ b. length (cond b (x ∷ filter p xs) (filter p xs))) t in
-      ap (λ b. cond b (x ∷ filter p xs) (filter p xs)) t ∙ ap (λ l. x ∷ l) (filter_full p xs (omega (arith, e, le)))
-  | inr f ↦ let e = ap (λ b. length (cond b (x ∷ filter p xs) (filter p xs))) f in absurd (omega (arith, e, le, rest))
-]
-
-pub take_get : {X : Type 0} (n : ℕ) (xs : List X) (k : ℕ) → k < n → slice_get (take n xs) k ≡ slice_get xs k
-take_get zero xs k lt = absurd (omega (arith, lt))
-take_get (suc n) [] k lt = refl
-take_get (suc n) (x ∷ xs) zero lt = refl
-take_get (suc n) (x ∷ xs) (suc k) lt = take_get n xs k (omega (arith, lt))
 
 pub drop_get : {X : Type 0} (n : ℕ) (xs : List X) (k : ℕ) → slice_get (drop n xs) k ≡ slice_get xs (n + k)
 drop_get zero xs k = let e : k ≡ 0 + k = omega arith in ap (slice_get xs) e
@@ -157,27 +142,6 @@ module _ (r : Row) (n : ℕ) (high : ℤ) where
       let two = get_or_from_slice_get vs p.0 w w p.2 in
       ap (λ b. b && is_less (number_in r.values.items r.numbers.items w) n) (le_false w high (omega (arith, ints, rises, one, two, lt))))
 
-  -- so many that end with the high value are all
-  pub rest_together : (i count index : ℕ) → IsFormedRow r → 0 < count → StandsAt r high (i + count - 1) → count ≡ length (rest_in r n high i) → index < count → slice_get (rest_in r n high i) index ≡ slice_get r.values.items (i + index)
-  rest_together i count index formed some ends counted lt =
-      let vs = r.values.items in
-      let rest = drop i vs in
-      let within = ends.0 in
-      let beyond : filter up_to (drop count rest) ≡ [] = filter_none up_to (drop count rest) (λ v m.
-      let k = drop_place count rest v m in
-      let at = sym (drop_get i vs k.0) ∙ k.2 in
-      let ge = k.1 in
-      let rises = get_or-ascends vs formed.ascends (i + count - 1) (i + k.0) v v (omega (arith, ge, some)) (slice_get_within vs (i + k.0) v at) in
-      let one = get_or_default vs (i + count - 1) v high within ∙ ends.1 in
-      let two = get_or_from_slice_get vs (i + k.0) v v at in
-      ap (λ b. b && is_less (number_in vs r.numbers.items v) n) (le_false v high (omega (arith, ints, rises, one, two)))) in
-      let split : filter up_to rest ≡ filter up_to (take count rest) =
-      ap (filter up_to) (sym (take-append-drop count rest)) ∙ filter-append up_to (take count rest) (drop count rest) ∙ ap (λ l. filter up_to (take count rest) ++ l) beyond ∙ append_nil (filter up_to (take count rest)) in
-      let long = ap length split in
-      let one = length-take count rest in
-      let whole = filter_full up_to (take count rest) (omega (arith, one, long, counted)) in
-      ap (λ l. slice_get l index) (split ∙ whole) ∙ take_get count rest index lt ∙ drop_get i vs index
-
 -- ---- values that stand side by side
 
 same_run : (c x : ℕ) (vs : List ℤ) (ps : List Pair) → ((k : ℕ) → k < c → (v : ℤ) × (slice_get ps k ≡ Some (record { var = x; value = v })) × (slice_get vs k ≡ Some v)) → pairs_with x (take c vs) ≡ take c ps
@@ -270,86 +234,53 @@ module _ (r : Row) (formed : IsFormedRow r) (x : ℕ) (pairs : List Pair) (start
 pub span_here : (rows : List Row) (x : ℕ) (r : Row) (n : ℕ) (low high : ℤ) → slice_get rows x ≡ Some r → row_span (slice_get rows x) n low high ≡ span_in r n low high
 span_here rows x r n low high at = ap (λ o. row_span o n low high) at
 
-span_some : (o : Option Row) (n : ℕ) (low high : ℤ) (i : ℕ) → i < length (row_span o n low high) → (r : Row) × (o ≡ Some r)
-span_some None n low high i lt = absurd (omega (arith, lt))
-span_some (Some r) n low high i lt = (r, refl)
-
--- a variable of which some value is one of a span has a row
-pub span_within : (rows : List Row) (x n : ℕ) (low high : ℤ) (i : ℕ) → i < length (row_span (slice_get rows x) n low high) → x < length rows
-span_within rows x n low high i lt = let r = span_some (slice_get rows x) n low high i lt in slice_get_within rows x r.0 r.1
+-- no more than the variable lost at some time
+pub span_most : (rows : List Row) (x : ℕ) (r : Row) (n : ℕ) (low high : ℤ) → slice_get rows x ≡ Some r → length (row_span (slice_get rows x) n low high) ≤ length r.values.items
+span_most rows x r n low high at =
+    let e = ap length (span_here rows x r n low high at) in
+    let le = filter_shorter (λ v. int_le low v && (int_le v high && is_less (number_in r.values.items r.numbers.items v) n)) r.values.items in omega (arith, e, le)
 
 -- ---- spans one after another
 
-pub get_behind_first : {X : Type 0} (xs ys : List X) (i : ℕ) → length xs ≤ i → slice_get (xs ++ ys) i ≡ slice_get ys (i - length xs)
-get_behind_first [] ys i le = let e : i ≡ i - 0 = omega arith in ap (slice_get ys) e
-get_behind_first (x ∷ xs) ys zero le = absurd (omega (arith, le))
-get_behind_first (x ∷ xs) ys (suc i) le = let e : i - length xs ≡ suc i - suc (length xs) = omega arith in get_behind_first xs ys i (omega (arith, le)) ∙ ap (slice_get ys) e
-
-pub written_drop : (rows : List Row) (n : ℕ) (spans : List Span) (i : ℕ) (s : Span) → slice_get spans i ≡ Some s → written rows n (drop i spans) ≡ span_pairs rows n s ++ written rows n (drop (i + 1) spans)
-written_drop rows n spans i s at = ap (written rows n) (drop_more spans i s (slice_get_within spans i s at) ∙ ap (λ t. t ∷ drop (i + 1) spans) (get_or_from_slice_get spans i s s at))
+-- a span has a pair for each of its values
+pub pairs_length : (rows : List Row) (n : ℕ) (s : Span) → length (span_pairs rows n s) ≡ length (span_values rows n s)
+pairs_length rows n s = length-map (span_values rows n s) (λ v. let p : Pair = record { var = s.var; value = v } in p)
 
 pub written_push : (rows : List Row) (n : ℕ) (spans : List Span) (s : Span) → written rows n (spans ++ s ∷ []) ≡ written rows n spans ++ span_pairs rows n s
 written_push rows n [] s = append_nil (span_pairs rows n s)
 written_push rows n (t ∷ spans) s = ap (λ l. span_pairs rows n t ++ l) (written_push rows n spans s) ∙ sym (append_assoc (span_pairs rows n t) (written rows n spans) (span_pairs rows n s))
 
-pub none_written : (rows : List Row) (n : ℕ) (spans : List Span) (i left : ℕ) → left < length (written rows n (drop i spans)) → i < length spans
-none_written rows n spans i left lt = elim (cases_lt i (length spans)) [
-  | inl l ↦ l
-  | inr ge ↦ let e = ap (λ l. length (written rows n l)) (drop_all i spans ge) in absurd (omega (arith, lt, e))
-]
-
 -- one more span
-pub spans_next : (rows : List Row) (n : ℕ) (spans : List Span) (s : Span) (reasons : List Pair) (start : ℕ) → start + s.count ≤ length reasons → span_pairs rows n s ≡ take s.count (drop start reasons) → AreSpansOf rows n spans (take start reasons)
-    → AreSpansOf rows n (spans ++ s ∷ []) (take (start + s.count) reasons)
-spans_next rows n spans s reasons start le pairs are = record {
-  written = written_push rows n spans s ∙ ap (λ l. l ++ span_pairs rows n s) are.written ∙ ap (λ l. take start reasons ++ l) pairs ∙ sym (take-add start s.count reasons);
-  counts = λ t m. elim (Contains-push_cases spans s t m) [
-    | inl o ↦ are.counts t o
-    | inr e ↦ subst (λ (z : Span). z.count ≡ length (span_values rows n z)) e
-        (let a = ap length pairs in
-        let b = length-take s.count (drop start reasons) in
-        let c = length-drop start reasons in
-        let d = length-map (span_values rows n s) (λ v. let q : Pair = record { var = s.var; value = v } in q) in omega (arith, a, b, c, d, le))
-  ];
-}
+pub spans_next : (rows : List Row) (n : ℕ) (spans : List Span) (s : Span) (count : ℕ) (reasons : List Pair) (start : ℕ) → span_pairs rows n s ≡ take count (drop start reasons) → written rows n spans ≡ take start reasons
+    → written rows n (spans ++ s ∷ []) ≡ take (start + count) reasons
+spans_next rows n spans s count reasons start pairs are =
+    written_push rows n spans s ∙ ap (λ l. l ++ span_pairs rows n s) are ∙ ap (λ l. take start reasons ++ l) pairs ∙ sym (take-add start count reasons)
 
--- ---- one after another
+module _ (rows : List Row) (n : ℕ) (spans : List Span) (i : ℕ) (s : Span) (lt : i < length spans) (is : s ≡ get_or spans i s) where
+  -- up to the next span
+  pub written_more : length (written rows n (take (i + 1) spans)) ≡ length (written rows n (take i spans)) + length (span_pairs rows n s)
+  written_more =
+      ap (λ ss. length (written rows n ss)) (take_more spans i s lt) ∙ ap length (written_push rows n (take i spans) (get_or spans i s))
+      ∙ length-append (written rows n (take i spans)) (span_pairs rows n (get_or spans i s)) ∙ ap (λ (t : Span). length (written rows n (take i spans)) + length (span_pairs rows n t)) (sym is)
 
-module _ (r : Row) (n : ℕ) (high : ℤ) (place : ℕ) (o : Option ℕ) (next : ℕ) (is : o ≡ Some next)
-    (some : IfSome o (λ k. (k < length r.values.items) × ((d : ℤ) → rest_in r n high place ≡ get_or r.values.items k d ∷ rest_in r n high (k + 1)))) where
-  next_there : (next < length r.values.items) × ((d : ℤ) → rest_in r n high place ≡ get_or r.values.items next d ∷ rest_in r n high (next + 1))
-  next_there = subst (λ q. IfSome q (λ k. (k < length r.values.items) × ((d : ℤ) → rest_in r n high place ≡ get_or r.values.items k d ∷ rest_in r n high (k + 1)))) is some
+  pub written_most : length (written rows n (take i spans)) + length (span_pairs rows n s) ≤ length (written rows n spans)
+  written_most =
+      let same = ap (λ (t : Span). length (span_pairs rows n t)) is in
+      let most = length-flat_map-take (span_pairs rows n) spans i s lt in omega (arith, same, most)
 
-  pub rest_more : (left : ℕ) → 0 < left → left < length (rest_in r n high place) → (left - 1 < length (rest_in r n high (next + 1))) × (slice_get (rest_in r n high place) left ≡ slice_get (rest_in r n high (next + 1)) (left - 1))
-  rest_more left some lt =
-      let d : ℤ = high in
-      let first = next_there.1 d in
-      let long = ap length first in
-      let e : left ≡ suc (left - 1) = omega (arith, some) in (
-        omega (arith, some, lt, long),
-        ap (slice_get (rest_in r n high place)) e ∙ ap (λ vs. slice_get vs (suc (left - 1))) first,
-      )
+get_past : {X : Type 0} (xs ys : List X) (k : ℕ) → slice_get (xs ++ ys) (length xs + k) ≡ slice_get ys k
+get_past [] ys k = let e : 0 + k ≡ k = omega arith in ap (slice_get ys) e
+get_past (x ∷ xs) ys k = let e : suc (length xs) + k ≡ suc (length xs + k) = omega arith in ap (slice_get (x ∷ (xs ++ ys))) e ∙ get_past xs ys k
 
-  pub next_value : (v : ℤ) (left : ℕ) → slice_get r.values.items next ≡ Some v → (0 < left → ⊥) → slice_get (rest_in r n high place) left ≡ Some v
-  next_value v left at none =
-      let e : left ≡ 0 = omega (arith, none) in
-      ap (slice_get (rest_in r n high place)) e ∙ ap (λ vs. slice_get vs 0) (next_there.1 v) ∙ ap Some (get_or_from_slice_get r.values.items next v v at)
-
--- past a span, and in one
-pub span_next : (rows : List Row) (n : ℕ) (spans : List Span) (i : ℕ) (s : Span) (left : ℕ) → slice_get spans i ≡ Some s → s.count ≡ length (span_values rows n s) → s.count ≤ left → left < length (written rows n (drop i spans))
-    → (left - s.count < length (written rows n (drop (i + 1) spans))) × (slice_get (written rows n (drop i spans)) left ≡ slice_get (written rows n (drop (i + 1) spans)) (left - s.count))
-span_next rows n spans i s left at count le lt =
-    let parts = written_drop rows n spans i s at in
-    let long = ap length parts in
-    let both = length-append (span_pairs rows n s) (written rows n (drop (i + 1) spans)) in
-    let same = length-map (span_values rows n s) (λ v. let q : Pair = record { var = s.var; value = v } in q) in
-    let e : left - length (span_pairs rows n s) ≡ left - s.count = omega (arith, same, count) in (
-      omega (arith, long, both, same, count, le, lt),
-      ap (λ ps. slice_get ps left) parts ∙ get_behind_first (span_pairs rows n s) (written rows n (drop (i + 1) spans)) left (omega (arith, same, count, le)) ∙ ap (slice_get (written rows n (drop (i + 1) spans))) e,
-    )
-
-pub span_value_at : (rows : List Row) (n : ℕ) (spans : List Span) (i : ℕ) (s : Span) (left : ℕ) (v : ℤ) → slice_get spans i ≡ Some s → slice_get (span_values rows n s) left ≡ Some v
-    → slice_get (written rows n (drop i spans)) left ≡ Some (record { var = s.var; value = v })
-span_value_at rows n spans i s left v at is =
-    ap (λ ps. slice_get ps left) (written_drop rows n spans i s at)
-    ∙ get_first (span_pairs rows n s) (written rows n (drop (i + 1) spans)) left (record { var = s.var; value = v }) (map_place (λ w. let q : Pair = record { var = s.var; value = w } in q) (span_values rows n s) left v is)
+-- behind those of the spans before it stand those of a span
+pub written_at : (rows : List Row) (n : ℕ) (spans : List Span) (i : ℕ) (s : Span) (left : ℕ) (p : Pair) → slice_get spans i ≡ Some s → slice_get (span_pairs rows n s) left ≡ Some p
+    → slice_get (written rows n spans) (length (written rows n (take i spans)) + left) ≡ Some p
+written_at rows n [] i s left p at is = cc
+written_at rows n (t ∷ spans) zero s left p at is =
+    let e : 0 + left ≡ left = omega arith in
+    let own : slice_get (span_pairs rows n t) left ≡ Some p = ap (λ (z : Span). slice_get (span_pairs rows n z) left) (some_same t s at) ∙ is in
+    ap (slice_get (span_pairs rows n t ++ written rows n spans)) e ∙ get_first (span_pairs rows n t) (written rows n spans) left p own
+written_at rows n (t ∷ spans) (suc i) s left p at is =
+    let long = length-append (span_pairs rows n t) (written rows n (take i spans)) in
+    let e : length (span_pairs rows n t ++ written rows n (take i spans)) + left ≡ length (span_pairs rows n t) + (length (written rows n (take i spans)) + left) = omega (arith, long) in
+    ap (slice_get (span_pairs rows n t ++ written rows n spans)) e ∙ get_past (span_pairs rows n t) (written rows n spans) (length (written rows n (take i spans)) + left) ∙ written_at rows n spans i s left p at is

@@ -1,5 +1,5 @@
 -- What a store keeps: over rows that say the same, and with one more entry; and what is read of its log.
-use Rattle.std.proofs.Common.{◌≡◌, ◌≢◌, ℕ, ◌+◌, ◌^◌, ◌<◌, ◌≤◌, false, List, [], ◌∷◌, ◌++◌, length, get_or, map, nat_lt, Bool, true, IfOk, OnErr, OnOk, Result, Ok, Err, is_err, Contains, Some, slice_get, ◌⊎◌, inl, inr, sym, ap, ◌∙◌, subst, arith}
+use Rattle.std.proofs.Common.{◌≡◌, ◌≢◌, ℕ, ◌+◌, ◌<◌, ◌≤◌, false, List, [], ◌∷◌, ◌++◌, length, get_or, map, nat_lt, Bool, true, IfOk, OnErr, OnOk, Result, Ok, Err, is_err, Contains, Some, slice_get, ◌⊎◌, inl, inr, sym, ap, ◌∙◌, subst, arith}
 use Rattle.std.proofs.lemmas.List.{get_or_default, length-append, length-map, map-append}
 use Rattle.std.proofs.lemmas.List.Quantifiers.{all_pairs_push}
 use Rattle.std.proofs.lemmas.List.Elements.{Contains-append_left, Contains-push, Contains-push_cases}
@@ -17,7 +17,7 @@ use Rattle.palm_explain.specs.declared.firsts.Firsts.{Firsts}
 use Rattle.palm_explain.specs.declared.rows.Row.{Row}
 use Rattle.palm_explain.specs.declared.rows.TheConstants.{NO_NUMBER}
 use Rattle.palm_explain.specs.declared.spans.Span.{Span}
-use Rattle.palm_explain.specs.Entries.{AreEntered, AreSpansOf, IsCounted, IsWhole, counted, log_of, removal_of, span_values, written}
+use Rattle.palm_explain.specs.Entries.{AreEntered, IsCountable, IsWhole, log_of, removal_of, span_values, written}
 use Rattle.palm_explain.specs.Explanations.{log_bys, reasons_of}
 use Rattle.palm_explain.specs.Firsts.{AreFormedFirsts, first_of}
 use Rattle.palm_explain.specs.Rows.{AreFormedRows, KeepsRemovals, number_at}
@@ -36,23 +36,14 @@ module _ (rows more : List Row) (n : ℕ) (one : AreFormedRows rows) (two : AreF
   reasons_same : (m : ℕ) → m ≤ n → (spans : List Span) → written more m spans ≡ written rows m spans
   reasons_same m le spans = written_same rows more m spans (λ s j. spans_same m le s)
 
-  counted_same : (e : Entry) → e.number ≤ n → IsCounted rows e → IsCounted more e
-  counted_same e le is = record {
-    fits = is.fits;
-    spans = λ s m. is.spans s m ∙ ap length (sym (spans_same e.number le s));
-  }
+  countable_same : (e : Entry) → e.number ≤ n → IsCountable rows e → IsCountable more e
+  countable_same e le is = let same = ap length (reasons_same e.number le e.spans.items) in omega (arith, same, is)
 
   removal_same : (e : Entry) → e.number ≤ n → removal_of more e ≡ removal_of rows e
   removal_same e le = ap (λ rs. let r : Removal = record { pair = e.pair; by = e.by; reasons = rs } in r) (reasons_same e.number le e.spans.items)
 
   pub log_same : (entries : List Entry) → ((e : Entry) → Contains entries e → e.number ≤ n) → log_of more entries ≡ log_of rows entries
   log_same entries within = map_agree (removal_of more) (removal_of rows) entries (λ e m. removal_same e (within e m))
-
-  pub spans_of_same : (spans : List Span) (reasons : List Pair) → AreSpansOf rows n spans reasons → AreSpansOf more n spans reasons
-  spans_of_same spans reasons are = record {
-    written = reasons_same n (omega arith) spans ∙ are.written;
-    counts = λ s m. are.counts s m ∙ ap length (sym (spans_same n (omega arith) s));
-  }
 
 below_next : (entries : List Entry) (rows : List Row) (next : ℕ) → AreEntered entries rows next → (e : Entry) → Contains entries e → e.number ≤ next
 below_next entries rows next are e m = let lt = are.below e m in omega (arith, lt)
@@ -76,7 +67,7 @@ module _ (entries : List Entry) (rows more : List Row) (next : ℕ) (are : AreEn
     formed = formed;
     found = λ e m. keeps.stay e.pair e.number (are.found e m);
     only = λ p k is. elim (keeps.only p k is) [ inl o ↦ are.only p k o | inr none ↦ inl none ];
-    counted = λ e m. counted_same rows more next are.formed formed known known_before e (below_next entries rows next are e m) (are.counted e m);
+    countable = λ e m. countable_same rows more next are.formed formed known known_before e (below_next entries rows next are e m) (are.countable e m);
   }
 
   pub log_like : log_of more entries ≡ log_of rows entries
@@ -104,16 +95,15 @@ module _ (entries : List Entry) (rows more : List Row) (next : ℕ) (e : Entry) 
     | inr n ↦ sym (others p n) ∙ at
   ]
 
-  pub log_pushed : (reasons : List Pair) → AreSpansOf rows next e.spans.items reasons → log_of more (entries ++ e ∷ []) ≡ log_of rows entries ++ record { pair = e.pair; by = e.by; reasons = reasons } ∷ []
+  pub log_pushed : (reasons : List Pair) → written rows next e.spans.items ≡ reasons → log_of more (entries ++ e ∷ []) ≡ log_of rows entries ++ record { pair = e.pair; by = e.by; reasons = reasons } ∷ []
   log_pushed reasons spans =
-      let last : written more e.number e.spans.items ≡ reasons = ap (λ n. written more n e.spans.items) is ∙ (spans_of_same rows more next are.formed formed to back e.spans.items reasons spans).written in
+      let last : written more e.number e.spans.items ≡ reasons = ap (λ n. written more n e.spans.items) is ∙ reasons_same rows more next are.formed formed to back next (omega arith) e.spans.items ∙ spans in
       map-append (removal_of more) entries (e ∷ []) ∙ ap (λ l. l ++ removal_of more e ∷ []) (log_same rows more next are.formed formed to back entries (below_next entries rows next are))
       ∙ ap (λ rs. log_of rows entries ++ record { pair = e.pair; by = e.by; reasons = rs } ∷ []) last
 
-  pub entered_pushed : (reasons : List Pair) → AreSpansOf rows next e.spans.items reasons → counted e.spans.items < 2 ^ 64 → AreEntered (entries ++ e ∷ []) more (next + 1)
-  entered_pushed reasons spans fits =
-      let most = are.most in
-      let now = spans_of_same rows more next are.formed formed to back e.spans.items reasons spans in record {
+  pub entered_pushed : IsCountable rows e → AreEntered (entries ++ e ∷ []) more (next + 1)
+  entered_pushed fits =
+      let most = are.most in record {
         rises = all_pairs_push (λ a b. a.number < b.number) entries e are.rises (λ k d lt.
             let below = are.below (get_or entries k d) (k, lt, get_or_default entries k (get_or entries k d) d lt) in omega (arith, below, is));
         below = λ f m. elim (Contains-push_cases entries e f m) [
@@ -133,12 +123,9 @@ module _ (entries : List Entry) (rows more : List Row) (next : ℕ) (e : Entry) 
             | inr f ↦ inr (f.0, Contains-append_left entries (e ∷ []) f.0 f.1, f.2, f.3)
           ]
         ];
-        counted = λ f m. elim (Contains-push_cases entries e f m) [
-          | inl o ↦ counted_same rows more next are.formed formed to back f (below_next entries rows next are f o) (are.counted f o)
-          | inr q ↦ subst (IsCounted more) q (record {
-            fits = fits;
-            spans = λ s j. now.counts s j ∙ ap (λ n. length (span_values more n s)) (sym is);
-          })
+        countable = λ f m. elim (Contains-push_cases entries e f m) [
+          | inl o ↦ countable_same rows more next are.formed formed to back f (below_next entries rows next are f o) (are.countable f o)
+          | inr q ↦ subst (IsCountable more) q (countable_same rows more next are.formed formed to back e (omega (arith, is)) fits)
         ];
       }
 

@@ -19,9 +19,12 @@ use Rattle.palm_explain.specs.Entries.{AreEntered, IsWhole, log_of}
 use Rattle.palm_explain.specs.Explanations.{IsLinked, LacksExactly}
 use Rattle.palm_explain.specs.Firsts.{AreFormedFirsts, first_of}
 use Rattle.palm_explain.specs.Losing.{AreMarkedBy, HasBack, LosesNumbers, kept_of, marked_pairs, unmarked}
+use Rattle.palm_explain.specs.Restored.{KeepsNumbers}
+use Rattle.palm_explain.specs.Rows.{number_at}
 use Rattle.palm_explain.proofs.Keeping.{AreTold, lacks_kept, log_lost_of, loses_kept, lost_of_log, noted_vars}
 use Rattle.palm_explain.proofs.Kept.{entered_kept, kept_entry, log_kept}
 use Rattle.palm_explain.proofs.Marking.{entered_marked, log_unmarked}
+use Rattle.palm_explain.proofs.PuttingBack.{keeps_loses}
 use Rattle.palm_explain.proofs.Reasons.{entered_linked}
 use Rattle.palm_explain.proofs.RowSpans.{take_place}
 use Rattle.palm_explain.proofs.Told.{told_names}
@@ -37,8 +40,15 @@ none_before_first entries firsts cid first start begun taken parted e m own =
     let less = ltb-true _ first (parted.before p.0 e (omega arith) p.1) in
     let le = k.2 in omega (arith, is, at, less, le)
 
-module _ (entries marks kept : List Entry) (rows now : List Row) (next : ℕ) (cid : Cid) (are : AreEntered entries rows next) (same : map unmarked marks ≡ entries) (marked : AreMarkedBy rows cid marks)
-    (numbers : LosesNumbers rows now (marked_pairs marks)) (closed : kept ≡ kept_of marks) where
+-- each entry has its number still where rows keep their numbers
+pub marks_numbered : (entries marks : List Entry) (rows middle : List Row) (next : ℕ) → AreEntered entries rows next → map unmarked marks ≡ entries → KeepsNumbers rows middle → (e : Entry) → Contains marks e → (k : ℕ) × (number_at middle e.pair ≡ Some k)
+marks_numbered entries marks rows middle next are same keeps e m = (e.number, keeps.numbers e.pair ∙ (entered_marked entries marks rows next same are).found e m)
+
+module _ (entries marks kept : List Entry) (rows middle now : List Row) (next : ℕ) (cid : Cid) (are : AreEntered entries rows next) (same : map unmarked marks ≡ entries) (marked : AreMarkedBy rows cid marks)
+    (keeps : KeepsNumbers rows middle) (forgets : LosesNumbers middle now (marked_pairs marks)) (closed : kept ≡ kept_of marks) where
+  numbers : LosesNumbers rows now (marked_pairs marks)
+  numbers = keeps_loses rows middle now (marked_pairs marks) keeps forgets
+
   entered : AreEntered marks rows next
   entered = entered_marked entries marks rows next same are
 

@@ -1,6 +1,6 @@
 -- The entries of the log: the reasons that their spans stand for, and what holds of all of them.
 use Rattle.std.specs.Prelude.{◌≡◌, ◌⊎◌, ℕ, ℤ, ◌^◌, ◌<◌, ◌≤◌, false, List, [], map, length, Contains, Option, Some, None, slice_get}
-use Rattle.std.specs.List.{AllPairs, flat_map, sum_by}
+use Rattle.std.specs.List.{AllPairs, flat_map}
 use Rattle.palm_base.specs.declared.terms.Pair.{Pair}
 use Rattle.palm_model.specs.Log.{Removal}
 use Rattle.palm_explain.specs.declared.entry.Entry.{Entry}
@@ -32,15 +32,6 @@ span_pairs rows n s = pairs_with s.var (span_values rows n s)
 abbrev pub written : List Row → ℕ → List Span → List Pair
 written rows n spans = flat_map (span_pairs rows n) spans
 
--- how many reasons the spans count
-abbrev pub counted : List Span → ℕ
-counted spans = sum_by (λ s. s.count) spans
-
--- the spans stand for these reasons, and count them
-pub record AreSpansOf (rows : List Row) (n : ℕ) (spans : List Span) (reasons : List Pair) : Type 0 where
-  pub written : written rows n spans ≡ reasons
-  pub counts : (s : Span) → Contains spans s → s.count ≡ length (span_values rows n s)
-
 -- ---- entries
 
 -- the removal that an entry stands for
@@ -54,10 +45,9 @@ log_of rows entries = map (removal_of rows) entries
 abbrev pub pairs_of : List Entry → List Pair
 pairs_of entries = map (λ e. e.pair) entries
 
--- the counts of an entry are right, and its reasons can be counted
-pub record IsCounted (rows : List Row) (e : Entry) : Type 0 where
-  pub fits : counted e.spans.items < 2 ^ 64
-  pub spans : (s : Span) → Contains e.spans.items s → s.count ≡ length (span_values rows e.number s)
+-- the reasons of an entry can be counted
+abbrev pub IsCountable : List Row → Entry → Type 0
+IsCountable rows e = length (written rows e.number e.spans.items) < 2 ^ 64
 
 -- the numbers rise, all are below the next one, and the rows know exactly them
 pub record AreEntered (entries : List Entry) (rows : List Row) (next : ℕ) : Type 0 where
@@ -67,7 +57,7 @@ pub record AreEntered (entries : List Entry) (rows : List Row) (next : ℕ) : Ty
   pub formed : AreFormedRows rows
   pub found : (e : Entry) → Contains entries e → number_at rows e.pair ≡ Some e.number
   pub only : (p : Pair) (k : ℕ) → number_at rows p ≡ Some k → (k ≡ NO_NUMBER) ⊎ ((e : Entry) × Contains entries e × (e.pair ≡ p) × (e.number ≡ k))
-  pub counted : (e : Entry) → Contains entries e → IsCounted rows e
+  pub countable : (e : Entry) → Contains entries e → IsCountable rows e
 
 -- none of them has a mark
 abbrev pub AreUnmarked : List Entry → Type 0

@@ -1,5 +1,5 @@
 -- The log of removals as its callers see it, what holds of every such log, and how a store of domains goes with it.
-use Rattle.std.specs.Prelude.{◌≡◌, ◌↔◌, ℕ, ℤ, ◌≤ℤ◌, ⊤, List, [], ◌∷◌, ◌++◌, map, length, Contains, slice_index_or}
+use Rattle.std.specs.Prelude.{◌≡◌, ◌↔◌, ℕ, ℤ, ◌≤ℤ◌, ⊤, List, [], ◌∷◌, ◌++◌, map, Contains, slice_index_or}
 use Rattle.palm_base.specs.declared.terms.Pair.{Pair}
 use Rattle.palm_base.specs.declared.terms.Cid.{Cid}
 use Rattle.palm_domain.specs.Rows.{Row, Ascends, IsDeclared, initial_of, present_of}
@@ -59,11 +59,10 @@ pub record NamesOfSome (log : List Removal) (x : ℕ) (values : List ℤ) (cid :
 
 -- ---- spans of reasons
 
--- the values are those of the span's variable from its low value to its high one among these pairs, ascending, and as many as it counts
+-- the values are those of the span's variable from its low value to its high one among these pairs, ascending
 pub record IsSpanOf (pairs : List Pair) (s : Span) (values : List ℤ) : Type 0 where
   pub ascends : Ascends values
   pub each : (v : ℤ) → Contains values v ↔ ((s.low ≤ℤ v) × (v ≤ℤ s.high) × Contains pairs (record { var = s.var; value = v }))
-  pub count : s.count ≡ length values
 
 -- one after another the spans stand for these pairs
 pub data AreSpanned (pairs : List Pair) : List Span → List Pair → Type 0 where

@@ -1,5 +1,5 @@
 -- Which removals a withdrawal loses, by marks of the entries, and what it puts back.
-use Rattle.std.specs.Prelude.{◌≡◌, ◌⊎◌, ◌↔◌, ℕ, ℤ, ◌≤ℤ◌, true, false, not, List, map, filter, length, Contains, Some}
+use Rattle.std.specs.Prelude.{◌≡◌, ◌⊎◌, ◌↔◌, ℕ, ℤ, ◌<◌, ◌≤ℤ◌, true, false, not, List, map, filter, Contains, Some}
 use Rattle.palm_base.specs.declared.terms.Pair.{Pair}
 use Rattle.palm_base.specs.declared.terms.Cid.{Cid}
 use Rattle.palm_domain.specs.Rows.{Row as DomainRow, IsPresent, initial_of}
@@ -8,8 +8,9 @@ use Rattle.palm_explain.specs.declared.restored.Restored.{Restored}
 use Rattle.palm_explain.specs.declared.rows.Row.{Row}
 use Rattle.palm_explain.specs.declared.rows.TheConstants.{NO_NUMBER}
 use Rattle.palm_explain.specs.declared.spans.Span.{Span}
-use Rattle.palm_explain.specs.Entries.{span_values, written}
-use Rattle.palm_explain.specs.Rows.{AreFormedRows, number_at}
+use Rattle.palm_explain.specs.Entries.{span_pairs, written}
+use Rattle.palm_explain.specs.Explanations.{AreEnds, IsSpanned}
+use Rattle.palm_explain.specs.Rows.{AreFormedRows, WereRemoved, number_at}
 
 -- ---- marks
 
@@ -33,9 +34,9 @@ FallsWith rows cid pairs e = (e.by ≡ cid) ⊎ ((p : Pair) × Contains (written
 abbrev pub AreMarkedBy : List Row → Cid → List Entry → Type 0
 AreMarkedBy rows cid entries = (e : Entry) → Contains entries e → (e.mark ≡ true) ↔ FallsWith rows cid (marked_pairs entries) e
 
--- the constraint made the removal, or a span of its reasons has not as many any more
-abbrev pub IsShort : List Row → Cid → Entry → Type 0
-IsShort rows cid e = (e.by ≡ cid) ⊎ ((s : Span) × Contains e.spans.items s × (length (span_values rows e.number s) ≡ s.count → ⊥))
+-- one of the reasons of the span is among the pairs
+abbrev pub HasLost : List Row → ℕ → List Pair → Span → Type 0
+HasLost rows n pairs s = (p : Pair) × Contains (span_pairs rows n s) p × Contains pairs p
 
 -- what is told of the variable, and the only thing
 pub record IsToldOf (restored : List Restored) (x : ℕ) (r : Restored) : Type 0 where
@@ -50,10 +51,13 @@ StandsWithin s v = (s.low ≤ℤ v) × (v ≤ℤ s.high)
 abbrev pub HasEnd : Restored → Span → Type 0
 HasEnd r s = StandsWithin s r.low ⊎ StandsWithin s r.high
 
--- a span in which nothing that is told stands has as many values as were counted, and one in which an end stands has not
-pub record IsTold (rows : List Row) (restored : List Restored) (n : ℕ) (s : Span) : Type 0 where
-  pub apart : ((r : Restored) → Contains restored r → r.var ≡ s.var → (r.low ≤ℤ s.high) × (s.low ≤ℤ r.high) → ⊥) → length (span_values rows n s) ≡ s.count
-  pub meets : (r : Restored) → Contains restored r → r.var ≡ s.var → HasEnd r s → length (span_values rows n s) ≡ s.count → ⊥
+-- these pairs are told, each was removed before the number, and of what was removed before it exactly they are present
+pub record AreToldBefore (rows : List Row) (restored : List Restored) (store : List DomainRow) (n : ℕ) (pairs : List Pair) : Type 0 where
+  pub spanned : (p : Pair) → Contains pairs p → IsSpanned restored p
+  pub ends : AreEnds restored pairs
+  pub removed : WereRemoved rows n pairs
+  pub present : (p : Pair) → Contains pairs p → IsPresent store p.var p.value
+  pub only : (p : Pair) (k : ℕ) → number_at rows p ≡ Some k → k < n → IsPresent store p.var p.value → Contains pairs p
 
 -- ---- what is put back
 

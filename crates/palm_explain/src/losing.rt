@@ -1,26 +1,25 @@
 //! Which removals a withdrawal loses: those of its constraint, and all that rest on a lost one. A reason is removed before what it is a
 //! reason for, so that one pass up the log finds them.
-ghost use Rattle.std.specs.Prelude.{◌≡◌, ◌↔◌, ℕ, ◌<◌, ◌≤◌, ◌≤ℤ◌, false, [], Some, length, map, set, slice_get, take, All, Contains, MatchOption, vec_capacity};
+ghost use Rattle.std.specs.Prelude.{◌≡◌, ◌↔◌, ℕ, ℤ, ◌<◌, ◌≤◌, ◌≤ℤ◌, false, List, [], Some, length, map, set, slice_get, take, All, Contains, MatchOption, vec_capacity};
 ghost use Rattle.palm_base.specs.Tells.{Tells};
 ghost use Rattle.palm_base.specs.declared.terms.Pair.{Pair as PairTerm};
-ghost use Rattle.palm_domain.specs.Rows.{Ascends, initial_of, present_of};
+ghost use Rattle.palm_domain.specs.Rows.{Ascends, IsPresent, initial_of, present_of};
 ghost use Rattle.palm_model.specs.Constraint.{Distinct};
 ghost use Rattle.palm_model.specs.Event.{vars_of};
-ghost use Rattle.palm_explain.specs.Entries.{AreEntered, AreUnmarked, pairs_of, span_values};
+ghost use Rattle.palm_explain.specs.Entries.{AreEntered, AreUnmarked, pairs_of};
 ghost use Rattle.palm_explain.specs.Explanations.{AreEnds, IsSpanned, LacksExactly, restored_vars};
-ghost use Rattle.palm_explain.specs.Losing.{AreMarkedBy, HasBack, HasEnd, IsShort, IsTold, IsToldOf, LosesNumbers, marked_pairs, unmarked};
-ghost use Rattle.palm_explain.specs.Restored.{AreSlotted};
-ghost use Rattle.palm_explain.specs.Rows.{AreFormedRows};
+ghost use Rattle.palm_explain.specs.Losing.{AreMarkedBy, AreToldBefore, FallsWith, HasBack, HasEnd, HasLost, IsToldOf, marked_pairs, unmarked};
+ghost use Rattle.palm_explain.specs.Restored.{AreSlotted, KeepsNumbers};
+ghost use Rattle.palm_explain.specs.Rows.{AreFormedRows, IsFormedRow, span_in};
 ghost use Rattle.palm_explain.specs.declared.entry.Entry.{Entry as EntryTerm};
 ghost use Rattle.palm_explain.specs.declared.restored.Restored.{Restored as RestoredTerm};
-ghost use Rattle.palm_explain.specs.declared.spans.Span.{Span as SpanTerm};
 
 use crate::entry::Entry;
 use crate::restored::Restored;
-use crate::rows::{Row, slot_of};
-use crate::spans::{Span, has_all};
+use crate::rows::{Row, row_of, slot_of};
+use crate::spans::Span;
 use crate::withdrawing::put_back;
-use palm_base::{Cid, Var};
+use palm_base::{Cid, Pair, Var};
 use palm_domain::DomainStore;
 
 /// What is told of the values of a variable that have come back, where some have.
@@ -54,33 +53,65 @@ fn overlaps(told: &Restored, span: &Span) -> bool
     told.low.0 <= span.high.0 && span.low.0 <= told.high.0
 }
 
-/// Whether a reason of the span is lost. The ends of what has come back tell it of most spans, and else the reasons are counted.
-fn is_short(rows: &[Row], restored: &[Restored], span: &Span, number: usize) -> bool
+/// Whether a value of the span that was removed before the number is present.
+fn has_present(row: &Row, span: &Span, number: usize, store: &DomainStore) -> bool
+    requires formed { IsFormedRow row.now }
+    requires known { span.now.var < length store.now }
+    ensures { Tells result ((v : ℤ) × Contains (span_in row.now number span.now.low span.now.high) v × IsPresent store.now span.now.var v) }
+{
+    let mut place = row.first_from(span.low);
+    while let Some(next) = row.next_before(place, span.high, number) {
+        let pair = Pair {
+            var: span.var,
+            value: row.numbered(next).0,
+        };
+        if store.contains(pair) {
+            return true;
+        }
+        place = next + 1;
+    }
+    false
+}
+
+/// Whether a reason of the span is lost. The ends of what has come back tell it of most spans, and else the store does.
+fn has_lost(
+    rows: &[Row],
+    restored: &[Restored],
+    span: &Span,
+    number: usize,
+    store: &DomainStore,
+) -> bool
     requires formed { AreFormedRows rows.now }
     requires slots { AreSlotted rows.now restored.now }
-    requires told { IsTold rows.now restored.now number span.now }
-    ensures { Tells result (length (span_values rows.now number span.now) ≡ span.now.count → ⊥) }
+    requires told { (pairs : List PairTerm) × AreToldBefore rows.now restored.now store.now number pairs }
+    ensures { (pairs : List PairTerm) → AreToldBefore rows.now restored.now store.now number pairs → Tells result (HasLost rows.now number pairs span.now) }
 {
     match told_of(rows, restored, span.var) {
         Some(told) if overlaps(&told, span) => {
-            has_end(&told, span) || !has_all(rows, span, number)
+            has_end(&told, span) || has_present(row_of(rows, span.var), span, number, store)
         }
         _ => false,
     }
 }
 
 /// Whether the constraint made the removal, or a reason of it is lost.
-fn is_lost(rows: &[Row], restored: &[Restored], entry: &Entry, cid: &Cid) -> bool
+fn is_lost(
+    rows: &[Row],
+    restored: &[Restored],
+    entry: &Entry,
+    cid: &Cid,
+    store: &DomainStore,
+) -> bool
     requires formed { AreFormedRows rows.now }
     requires slots { AreSlotted rows.now restored.now }
-    requires told { (s : SpanTerm) → Contains entry.now.spans.items s → IsTold rows.now restored.now entry.now.number s }
-    ensures { Tells result (IsShort rows.now cid.now entry.now) }
+    requires told { (pairs : List PairTerm) × AreToldBefore rows.now restored.now store.now entry.now.number pairs }
+    ensures { (pairs : List PairTerm) → AreToldBefore rows.now restored.now store.now entry.now.number pairs → Tells result (FallsWith rows.now cid.now pairs entry.now) }
 {
     if entry.by.is_same(cid) {
         return true;
     }
     for span in entry.spans.as_slice() {
-        if is_short(rows, restored, span, entry.number) {
+        if has_lost(rows, restored, span, entry.number, store) {
             return true;
         }
     }
@@ -114,7 +145,7 @@ pub(crate) fn lose_each(
     ensures same { map unmarked log.new.items ≡ log.old.items }
     ensures marked { AreMarkedBy rows.old.items cid.now log.new.items }
     ensures before { (e : EntryTerm) → Contains (take start log.new.items) e → e.mark ≡ false }
-    ensures numbers { LosesNumbers rows.old.items rows.new.items (marked_pairs log.new.items) }
+    ensures numbers { KeepsNumbers rows.old.items rows.new.items }
     ensures back { HasBack store.old store.new (marked_pairs log.new.items) }
     ensures ascend { All Ascends (present_of store.new) × All Ascends (initial_of store.new) }
     ensures once { Distinct (restored_vars restored.new.items) }
@@ -124,7 +155,7 @@ pub(crate) fn lose_each(
     ensures room { vec_capacity restored.new ≡ vec_capacity restored.old }
 {
     for place in start..log.len() {
-        if is_lost(rows, restored, &log[place], cid) {
+        if is_lost(rows, restored, &log[place], cid, store) {
             put_back(log[place].pair, rows, restored, store);
             set_mark(log, place, true);
         }

@@ -114,15 +114,12 @@ impl Row {
         self.values.partition_point(|value| *value < low)
     }
 
-    /// Whether so many values from a place on end with this one.
+    /// How many values there are.
     #[inline(always)]
-    pub(crate) fn reaches(&self, start: usize, count: usize, high: Value) -> bool
-        requires { 0 < count }
-        ensures { result ≡ true → StandsAt self.now high (start + count - 1) }
+    pub(crate) fn len(&self) -> usize
+        ensures { result ≡ length self.now.values.items }
     {
-        start < self.values.len()
-            && count <= self.values.len() - start
-            && self.has_at(start + (count - 1), high)
+        self.values.len()
     }
 
     /// The first place from this one on whose value is at most `high`, and was removed before the number.

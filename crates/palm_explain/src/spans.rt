@@ -1,10 +1,8 @@
 //! The reasons of a removal by spans of values, and how a list of reasons is put into spans.
-ghost use Rattle.std.specs.Prelude.{◌≡◌, ℕ, ◌+◌, ◌-◌, ◌^◌, ◌<◌, ◌≤◌, true, Some, length, drop, take, slice_get, ◌++◌, Contains, IfOk, OnOk, SomeIff};
-ghost use Rattle.palm_base.specs.Tells.{Tells};
+ghost use Rattle.std.specs.Prelude.{◌≡◌, ℕ, ℤ, ◌+◌, ◌-◌, ◌^◌, ◌<◌, ◌≤◌, true, Some, length, drop, take, slice_get, ◌++◌, Contains, IfErr, IfOk, MatchOption, OnOk};
 ghost use Rattle.palm_base.specs.declared.terms.Pair.{Pair as PairTerm};
-ghost use Rattle.palm_explain.specs.Entries.{AreSpansOf, counted, pairs_with, span_pairs, span_values, written};
-ghost use Rattle.palm_explain.specs.Rows.{AreFormedRows, IsFormedRow, IsNext, WereRemoved, number_at, number_in, rest_in, span_in};
-ghost use Rattle.palm_explain.specs.declared.spans.Span.{Span as SpanTerm};
+ghost use Rattle.palm_explain.specs.Entries.{pairs_with, row_span, span_pairs, written};
+ghost use Rattle.palm_explain.specs.Rows.{AreFormedRows, IsFormedRow, IsNext, WereRemoved, number_at, number_in, span_in};
 
 use crate::rows::{Row, row_at, row_of};
 use palm_base::{NoMemory, Pair, Value, Var};
@@ -18,8 +16,6 @@ pub struct Span {
     pub var: Var,
     pub low: Value,
     pub high: Value,
-    /// How many there are.
-    pub count: u32,
 }
 
 /// Whether the next one of the reasons is of the variable, and stands at the place of its row.
@@ -35,7 +31,7 @@ fn follows(row: &Row, var: Var, reasons: &[Pair], next: usize, place: usize) -> 
 
 /// How many of the reasons from one on follow one another: they are of its variable, and stand side by side in its row.
 #[inline(never)]
-fn run_length(row: &Row, var: Var, reasons: &[Pair], start: usize) -> u32
+fn run_length(row: &Row, var: Var, reasons: &[Pair], start: usize) -> usize
     requires formed { IsFormedRow row.now }
     requires within { start < length reasons.now }
     requires there { (p : PairTerm) → slice_get reasons.now start ≡ Some p → (p.var ≡ var) × ((k : ℕ) × (number_in row.now.values.items row.now.numbers.items p.value ≡ Some k)) }
@@ -47,7 +43,7 @@ fn run_length(row: &Row, var: Var, reasons: &[Pair], start: usize) -> u32
 {
     let mut place = row.place_near(reasons[start].value, 0) + 1;
     let mut count = 1;
-    while count < u32::MAX && follows(row, var, reasons, start + count as usize, place) {
+    while follows(row, var, reasons, start + count, place) {
         place += 1;
         count += 1;
     }
@@ -63,24 +59,24 @@ fn reason_at(reasons: &[Pair], place: usize) -> Pair
     reasons[place]
 }
 
-/// The span of the reasons from one on that follow one another.
-fn span_at(rows: &[Row], reasons: &[Pair], start: usize) -> Span
+/// The span of the reasons from one on that follow one another, and how many these are.
+fn span_at(rows: &[Row], reasons: &[Pair], start: usize) -> (Span, usize)
     requires formed { AreFormedRows rows.now }
     requires removed { (p : PairTerm) → Contains reasons.now p → (k : ℕ) × (number_at rows.now p ≡ Some k) }
     requires within { start < length reasons.now }
-    ensures some { 0 < result.count }
-    ensures within { start + result.count ≤ length reasons.now }
-    ensures pairs { (n : ℕ) → WereRemoved rows.now n reasons.now → span_pairs rows.now n result ≡ take result.count (drop start reasons.now) }
+    ensures some { 0 < result.1 }
+    ensures within { start + result.1 ≤ length reasons.now }
+    ensures pairs { (n : ℕ) → WereRemoved rows.now n reasons.now → span_pairs rows.now n result.0 ≡ take result.1 (drop start reasons.now) }
 {
     let first = reason_at(reasons, start);
     let row = row_of(rows, first.var);
     let count = run_length(row, first.var, reasons, start);
-    Span {
+    let span = Span {
         var: first.var,
         low: first.value,
-        high: reason_at(reasons, start + count as usize - 1).value,
-        count,
-    }
+        high: reason_at(reasons, start + count - 1).value,
+    };
+    (span, count)
 }
 
 /// The spans of a list of reasons, all of which are removed.
@@ -91,13 +87,12 @@ pub(crate) fn spans_of(
 ) -> Result<SmallVec<Span, 2>, NoMemory>
     requires formed { AreFormedRows rows.now }
     requires removed { (p : PairTerm) → Contains reasons.now p → (k : ℕ) × (number_at rows.now p ≡ Some k) }
-    ensures { IfOk result (λ spans. (n : ℕ) → WereRemoved rows.now n reasons.now → AreSpansOf rows.now n spans.items reasons.now) }
+    ensures { IfOk result (λ spans. (n : ℕ) → WereRemoved rows.now n reasons.now → written rows.now n spans.items ≡ reasons.now) }
 {
     let mut spans = SmallVec::new(alloc);
     let mut start = 0;
     while start < reasons.len() {
-        let span = span_at(rows, reasons, start);
-        let count = span.count as usize;
+        let (span, count) = span_at(rows, reasons, start);
         spans.push(span)?;
         start += count;
     }
@@ -117,102 +112,105 @@ pub(crate) fn copy_of(alloc: Global, spans: &[Span]) -> Result<SmallVec<Span, 2>
     Ok(SmallVec::from_slice(alloc, spans)?)
 }
 
-/// How many reasons the spans count, if a `usize` can tell, as it can of one span.
+/// How many values the variable lost at some time.
 #[inline(always)]
-pub(crate) fn count_of(spans: &[Span]) -> Option<usize>
-    ensures { SomeIff result (counted spans.now < 2 ^ 64) (counted spans.now) }
+fn lost_by(rows: &[Row], var: Var) -> usize
+    ensures { (n : ℕ) (low high : ℤ) → length (row_span (slice_get rows.now var) n low high) ≤ result }
 {
-    if spans.len() == 1 {
-        return Some(span_of(spans, 0).count as usize);
+    match row_at(rows, var) {
+        Some(row) => row.len(),
+        None => 0,
     }
-    let mut count: usize = 0;
-    for span in spans {
-        let Some(more) = count.checked_add(span.count as usize) else {
-            return None;
-        };
-        count = more;
-    }
-    Some(count)
 }
 
-/// Whether so many values of the span were removed before the number.
-fn has_count(row: &Row, span: &Span, number: usize) -> bool
-    requires { IsFormedRow row.now }
-    ensures { Tells result (length (span_in row.now number span.now.low span.now.high) ≡ span.now.count) }
+/// Whether it is known that a `usize` can tell how many reasons the spans stand for. It is of one span, as mostly.
+#[inline(always)]
+pub(crate) fn are_countable(rows: &[Row], spans: &[Span]) -> bool
+    ensures { result ≡ true → (n : ℕ) → length (written rows.now n spans.now) < 2 ^ 64 }
 {
-    let mut left = span.count;
+    if spans.len() == 1 {
+        prove!(lost_by(rows, spans[0].var) <= usize::MAX);
+        return true;
+    }
+    let mut most: usize = 0;
+    for span in spans {
+        let Some(more) = most.checked_add(lost_by(rows, span.var)) else {
+            return false;
+        };
+        most = more;
+    }
+    true
+}
+
+/// How many reasons the span stands for.
+fn count_in(rows: &[Row], span: &Span, number: usize) -> usize
+    requires { AreFormedRows rows.now }
+    ensures { result ≡ length (span_pairs rows.now number span.now) }
+{
+    let Some(row) = row_at(rows, span.var) else {
+        return 0;
+    };
+    let mut count = 0;
+    let mut place = row.first_from(span.low);
+    while let Some(next) = row.next_before(place, span.high, number) {
+        count += 1;
+        place = next + 1;
+    }
+    count
+}
+
+/// How many reasons the spans stand for.
+pub(crate) fn count_of(rows: &[Row], spans: &[Span], number: usize) -> usize
+    requires formed { AreFormedRows rows.now }
+    requires fits { length (written rows.now number spans.now) < 2 ^ 64 }
+    ensures { result ≡ length (written rows.now number spans.now) }
+{
+    let mut count = 0;
+    for span in spans {
+        count += count_in(rows, span, number);
+    }
+    count
+}
+
+/// The reason at an index among those of a span, or how many of the others the index lies behind them.
+fn reason_of(rows: &[Row], span: &Span, number: usize, index: usize) -> Result<Pair, usize>
+    requires { AreFormedRows rows.now }
+    ensures ok { IfOk result (λ reason. slice_get (span_pairs rows.now number span.now) index ≡ Some reason) }
+    ensures err { IfErr result (λ left. index ≡ length (span_pairs rows.now number span.now) + left) }
+{
+    let Some(row) = row_at(rows, span.var) else {
+        return Err(index);
+    };
+    let mut left = index;
     let mut place = row.first_from(span.low);
     while let Some(next) = row.next_before(place, span.high, number) {
         if left == 0 {
-            return false;
+            return Ok(Pair {
+                var: span.var,
+                value: row.numbered(next).0,
+            });
         }
         left -= 1;
         place = next + 1;
     }
-    left == 0
+    Err(left)
 }
 
-/// Whether all reasons of the span are still removed.
-pub(crate) fn has_all(rows: &[Row], span: &Span, number: usize) -> bool
+/// The reason at an index among those of the spans, if there are so many.
+pub(crate) fn reason_in(rows: &[Row], spans: &[Span], number: usize, index: usize) -> Option<Pair>
     requires { AreFormedRows rows.now }
-    ensures { Tells result (length (span_values rows.now number span.now) ≡ span.now.count) }
+    ensures { MatchOption result
+        (length (written rows.now number spans.now) ≤ index)
+        (λ reason. slice_get (written rows.now number spans.now) index ≡ Some reason) }
 {
-    match rows.get(span.var.0 as usize) {
-        Some(row) => has_count(row, span, number),
-        None => span.count == 0,
-    }
-}
-
-/// The value at an index among those of the span that were removed before the number. Where the row has no other values between the
-/// ends of the span, it stands so many places behind the first one.
-fn value_in(rows: &[Row], span: &Span, number: usize, index: usize) -> Value
-    requires formed { AreFormedRows rows.now }
-    requires counts { span.now.count ≡ length (span_values rows.now number span.now) }
-    requires within { index < length (span_values rows.now number span.now) }
-    ensures { slice_get (span_values rows.now number span.now) index ≡ Some result }
-{
-    let row = row_of(rows, span.var);
-    let mut place = row.first_from(span.low);
-    if row.reaches(place, span.count as usize, span.high) {
-        return row.numbered(place + index).0;
-    }
     let mut left = index;
-    while left > 0 {
-        place = row.next_before(place, span.high, number).unwrap() + 1;
-        left -= 1;
+    for span in spans {
+        match reason_of(rows, span, number, left) {
+            Ok(reason) => return Some(reason),
+            Err(more) => left = more,
+        }
     }
-    let next = row.next_before(place, span.high, number).unwrap();
-    row.numbered(next).0
-}
-
-/// The span at a place.
-#[inline(always)]
-fn span_of(spans: &[Span], place: usize) -> Span
-    requires { place < length spans.now }
-    ensures { slice_get spans.now place ≡ Some result }
-{
-    spans[place]
-}
-
-/// The reason at an index among those of the spans.
-pub(crate) fn reason_in(rows: &[Row], spans: &[Span], number: usize, index: usize) -> Pair
-    requires formed { AreFormedRows rows.now }
-    requires counts { (s : SpanTerm) → Contains spans.now s → s.count ≡ length (span_values rows.now number s) }
-    requires within { index < length (written rows.now number spans.now) }
-    ensures { slice_get (written rows.now number spans.now) index ≡ Some result }
-{
-    let mut place = 0;
-    let mut left = index;
-    while left >= span_of(spans, place).count as usize {
-        left -= span_of(spans, place).count as usize;
-        place += 1;
-    }
-    let span = span_of(spans, place);
-    let value = value_in(rows, &span, number, left);
-    Pair {
-        var: span.var,
-        value,
-    }
+    None
 }
 
 /// Appends the reasons of a span.

@@ -17,8 +17,8 @@ use crate::naming::names_at;
 use crate::needing::{add_needed, cids_of};
 use crate::restored::Restored;
 use crate::rows::{NO_NUMBER, Row, declare_values, number_near, put_number};
-use crate::spans::{Span, copy_of, count_of, push_spans, reason_in, spans_of};
-use crate::withdrawing::close_up;
+use crate::spans::{Span, are_countable, copy_of, count_of, push_spans, reason_in, spans_of};
+use crate::withdrawing::{close_up, forget_each};
 use palm_base::{Cid, CidList, NoMemory, Pair, Value, Var};
 use palm_domain::DomainStore;
 use std::alloc::{AllocError, Global};
@@ -93,7 +93,7 @@ impl ExplainStore {
         ensures err { OnErr result (self.new ≡ self.old) }
     {
         let number = self.next;
-        if number == NO_NUMBER || count_of(spans).is_none() {
+        if number == NO_NUMBER || !are_countable(&self.rows, spans) {
             return Err(NoMemory);
         }
         let own = copy_of(*self.log.allocator(), spans)?;
@@ -141,7 +141,8 @@ impl ExplainStore {
         requires { place < length self.now.log }
         ensures { result ≡ length (reasons_of self.now.log place) }
     {
-        count_of(self.log[place].spans.as_slice()).unwrap()
+        let entry = &self.log[place];
+        count_of(&self.rows, entry.spans.as_slice(), entry.number)
     }
 
     /// A reason of the removal at a place.
@@ -151,7 +152,7 @@ impl ExplainStore {
         ensures { slice_get (reasons_of self.now.log place) index ≡ Some result }
     {
         let entry = &self.log[place];
-        reason_in(&self.rows, entry.spans.as_slice(), entry.number, index)
+        reason_in(&self.rows, entry.spans.as_slice(), entry.number, index).unwrap()
     }
 
     /// Makes `out` the reasons of the removal at a place; without memory `out` is empty.
@@ -265,6 +266,7 @@ impl ExplainStore {
             &mut self.restored,
             store,
         );
+        forget_each(&self.log, start, &mut self.rows);
         close_up(&mut self.log, start);
     }
 

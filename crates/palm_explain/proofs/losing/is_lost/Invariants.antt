@@ -1,8 +1,9 @@
-use Rattle.std.proofs.Common.{◌≡◌, length, take, Contains}
+use Rattle.std.proofs.Common.{List, take, Contains}
+use Rattle.palm_base.specs.declared.terms.Pair.{Pair}
 use Rattle.palm_explain.specs.declared.spans.Span.{Span}
-use Rattle.palm_explain.specs.Entries.{span_values}
+use Rattle.palm_explain.specs.Losing.{AreToldBefore, HasLost}
 use Rattle.palm_explain.proofs.losing.is_lost.Given as goal
 
--- the spans so far have all their reasons
+-- no reason of the spans so far is lost
 abbrev pub invariant-loop-span : goal.invariant-loop-span
-invariant-loop-span l = (s : Span) → Contains (take l.span-index l.span-items) s → length (span_values l.rows l.entry.number s) ≡ s.count
+invariant-loop-span l = (pairs : List Pair) → AreToldBefore l.rows l.restored l.store l.entry.number pairs → (s : Span) → Contains (take l.span-index l.span-items) s → HasLost l.rows l.entry.number pairs s → ⊥

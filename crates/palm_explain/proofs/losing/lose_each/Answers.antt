@@ -1,15 +1,18 @@
 use Rattle.std.proofs.Common.{◌≡◌, ◌∙◌, ◌<◌, ◌+◌, List, Vec, Global, Some, length, set, slice_get, false, true, vec_capacity, vec_len, refl, sym, ap, subst, arith}
 use Rattle.std.proofs.lemmas.Option.{slice_get-get_or}
+use Rattle.palm_base.specs.Tells.{Tells}
 use Rattle.palm_base.proofs.cited.Members.{member_map}
 use Rattle.palm_explain.specs.declared.entry.Entry.{Entry}
 use Rattle.palm_explain.specs.declared.restored.Restored.{Restored}
 use Rattle.palm_explain.specs.declared.rows.Row.{Row}
 use Rattle.palm_explain.specs.Entries.{pairs_of}
-use Rattle.palm_explain.specs.Losing.{IsShort, IsTold, marked_pairs}
-use Rattle.palm_explain.proofs.Marking.{IsMarkedBelow, falls_short, here, marked_all, marked_length, marked_next, marked_none, marked_start, none_before, none_marked, one_more, short_falls, spans_told, unmarked_pair}
+use Rattle.palm_explain.specs.Losing.{FallsWith, marked_pairs}
+use Rattle.palm_explain.proofs.Keeping.{told_false, told_true}
+use Rattle.palm_explain.proofs.Marking.{IsMarkedBelow, here, marked_all, marked_length, marked_next, marked_none, marked_start, none_before, none_marked, one_more, told_now, unmarked_pair}
+use Rattle.palm_explain.proofs.PuttingBack.{keeps_falls}
 use Rattle.palm_explain.proofs.Reasons.{some_same}
-use Rattle.palm_explain.proofs.Returning.{put_next, put_none, put_same, still_declared, still_numbered, still_out}
-use Rattle.palm_explain.proofs.Slots.{slotted_once, spanned_vars}
+use Rattle.palm_explain.proofs.Returning.{put_next, put_none, put_same, still_declared, still_out}
+use Rattle.palm_explain.proofs.Slots.{number_within, slotted_once, spanned_vars}
 use Rattle.palm_explain.proofs.losing.lose_each.Goals as goal
 use Rattle.palm_explain.proofs.losing.lose_each.Goals.{then-is_lost, else-is_lost}
 
@@ -17,14 +20,14 @@ pub loop-place-init : goal.loop-place-init
 loop-place-init c =
     let all = c.args.log.now.items in record {
       below = marked_start c.args.rows.now.items c.args.cid.now all c.args.start c.requires.unmarked c.requires.begun;
-      back = put_none c.args.rows.now.items c.args.store.now c.args.restored.now.items (marked_pairs all) c.requires.entered.1.formed c.requires.none (none_marked all c.requires.unmarked);
+      back = put_none c.args.rows.now.items c.args.store.now c.args.restored.now.items (marked_pairs all) c.requires.none (none_marked all c.requires.unmarked);
       from = omega arith;
       same = refl;
       few = (let long = c.args.restored.now.ok.0 in let none = ap (λ (l : List Restored). length l) c.requires.none in omega (arith, long, none));
     }
 
-pub put_back-requires-clause-numbered : goal.put_back-requires-clause-numbered
-put_back-requires-clause-numbered c =
+pub put_back-requires-clause-row : goal.put_back-requires-clause-row
+put_back-requires-clause-row c =
     let rows = c.args.rows.now.items in
     let cid = c.args.cid.now in
     let all = c.args.log.now.items in
@@ -36,11 +39,9 @@ put_back-requires-clause-numbered c =
     let f = c.index-then-is_lost.result.now in
     let long = marked_length rows cid all c.args.start log place is.below in
     let within : place < length log = omega (arith, long, c.loop-place-test.true, c.len-place-end.ensures, c.args.log.now.ok.0) in
-    let at : slice_get log place ≡ Some f = slice_get-get_or log place f within ∙ ap Some (sym c.index-then-is_lost.ensures) in (
-      f.number,
-      still_numbered rows c.loop-place.rows.items (marked_pairs log) f.pair f.number is.back.numbers (unmarked_pair rows cid all next are c.args.start log place is.below f at)
-          (are.found (record f { mark = false }) (here rows cid all next are c.args.start log place is.below f at)),
-    )
+    let at : slice_get log place ≡ Some f = slice_get-get_or log place f within ∙ ap Some (sym c.index-then-is_lost.ensures) in
+    let under = number_within rows f.pair f.number (are.found (record f { mark = false }) (here rows cid all next are c.args.start log place is.below f at)) in
+    let long-rows = is.back.numbers.long in omega (arith, under, long-rows)
 
 pub put_back-requires-clause-declared : goal.put_back-requires-clause-declared
 put_back-requires-clause-declared c =
@@ -78,7 +79,7 @@ put_back-requires-clause-out c =
     (unmarked_pair rows cid all next are c.args.start log place is.below f at)
 
 pub is_lost-requires-clause-told : goal.is_lost-requires-clause-told
-is_lost-requires-clause-told c s m =
+is_lost-requires-clause-told c =
     let rows = c.args.rows.now.items in
     let cid = c.args.cid.now in
     let all = c.args.log.now.items in
@@ -90,9 +91,11 @@ is_lost-requires-clause-told c s m =
     let e = c.index.result.now in
     let long = marked_length rows cid all c.args.start log place is.below in
     let within : place < length log = omega (arith, long, c.loop-place-test.true, c.len-place-end.ensures, c.args.log.now.ok.0) in
-    let at : slice_get log place ≡ Some e = slice_get-get_or log place e within ∙ ap Some (sym c.index.ensures) in
-    let told = spans_told rows cid all next are c.args.start log place is.below e at c.loop-place.rows.items c.loop-place.restored.items is.back.numbers is.back.spanned is.back.ends s m in
-    subst (λ rs. IsTold rs c.deref-in-loop-place.result.now e.number s) (sym c.deref.ensures.value) (subst (λ rs. IsTold c.loop-place.rows.items rs e.number s) (sym c.deref-in-loop-place.ensures.value) told)
+    let at : slice_get log place ≡ Some e = slice_get-get_or log place e within ∙ ap Some (sym c.index.ensures) in (
+      marked_pairs log,
+      told_now rows cid all next are c.args.start log place is.below e at c.loop-place.rows.items c.deref.result.now c.loop-place.restored.items c.deref-in-loop-place.result.now c.args.store.now c.loop-place.store c.requires.lacks is.back
+          (sym c.deref.ensures.value) (sym c.deref-in-loop-place.ensures.value),
+    )
 
 pub loop-place-preserved : goal.loop-place-preserved
 loop-place-preserved c =
@@ -111,13 +114,15 @@ loop-place-preserved c =
     let e = c.index.result.now in
     let at-e : slice_get log place ≡ Some e = slice_get-get_or log place e within ∙ ap Some (sym c.index.ensures) in
     let low = is.from in
+    let told = told_now rows cid all next are start log place is.below e at-e now c.deref.result.now c.loop-place.restored.items c.deref-in-loop-place.result.now c.args.store.now c.loop-place.store c.requires.lacks is.back
+    (sym c.deref.ensures.value) (sym c.deref-in-loop-place.ensures.value) in
+    let tells = keeps_falls rows now cid (marked_pairs log) e are.formed is.back.numbers c.is_lost.result (subst (λ rs. Tells c.is_lost.result (FallsWith rs cid (marked_pairs log) e)) c.deref.ensures.value (c.is_lost.ensures (marked_pairs log) told)) in
     elim c.if-is_lost.branch [
       | then-is_lost w ↦
           let f = w.index-then-is_lost.result.now in
           let at : slice_get log place ≡ Some f = slice_get-get_or log place f within ∙ ap Some (sym w.index-then-is_lost.ensures) in
           let same : e ≡ f = some_same e f (sym at-e ∙ at) in
-          let short : IsShort now cid f = subst (λ (z : Entry). IsShort now cid z) same (rw c.deref.ensures.value at w.if-is_lost.ensures) in
-          let falls = short_falls all rows now next are cid (marked_pairs log) is.back.numbers (record f { mark = false }) (here rows cid all next are start log place is.below f at) short in
+          let falls : FallsWith rows cid (marked_pairs log) f = subst (λ (z : Entry). FallsWith rows cid (marked_pairs log) z) same (told_true c.is_lost.result (FallsWith rows cid (marked_pairs log) e) tells w.if-is_lost.true) in
           let log-is = ap (λ (v : Vec Entry Global). v.items) w.log-is ∙ w.set_mark.ensures f at in
           let marked = set log place (record f { mark = true }) in
           let back = put_next rows now w.put_back.new.rows.items c.args.store.now c.loop-place.store w.put_back.new.store c.loop-place.restored.items w.put_back.new.restored.items (marked_pairs log) (marked_pairs marked) f.pair
@@ -134,9 +139,7 @@ loop-place-preserved c =
             few = (let more = room.1 in omega (arith, more, few, count));
           }
       | else-is_lost w ↦
-          let none : IsShort now cid e → ⊥ = rw c.deref.ensures.value at w.if-is_lost.ensures in
-          let stays = marked_none rows cid all next are start log place is.below e at-e low
-          (λ falls. none (falls_short all rows now next are cid (marked_pairs log) is.back.numbers (record e { mark = false }) (here rows cid all next are start log place is.below e at-e) falls)) in
+          let stays = marked_none rows cid all next are start log place is.below e at-e low (told_false c.is_lost.result (FallsWith rows cid (marked_pairs log) e) tells w.if-is_lost.false) in
           let log-is = ap (λ (v : Vec Entry Global). v.items) w.log-is in
           let few = is.few in
           let count = ap (λ (v : Vec Restored Global). vec_len v) w.restored-is in

@@ -11,7 +11,7 @@ pub loop-next-preserved : goal.loop-next-preserved
 loop-next-preserved c =
     let r = c.in-Some.row.now in
     let n = c.args.number in
-    let s : Span = record { var = c.args.var; low = c.args.low; high = c.args.high; count = 0 } in
+    let s : Span = record { var = c.args.var; low = c.args.low; high = c.args.high } in
     let next = c.in-Some-next_before.next in
     let k = c.numbered.result.1 in
     let v = c.numbered.result.0 in
@@ -22,5 +22,5 @@ loop-next-preserved c =
 
 pub returns-then-high-low : goal.returns-then-high-low
 returns-then-high-low c =
-    let s : Span = record { var = c.args.var; low = c.args.low; high = c.args.high; count = 0 } in
+    let s : Span = record { var = c.args.var; low = c.args.low; high = c.args.high } in
     none_noted c.args.rows.now s c.args.number c.args.noted.now (omega (arith, ints, c.if-high-low.true, c.low.view_is, c.high.view_is))

@@ -1,10 +1,7 @@
-use Rattle.std.proofs.Common.{◌≡◌, ◌^◌, ◌<◌, take}
-use Rattle.palm_explain.specs.Entries.{counted}
+use Rattle.std.proofs.Common.{◌≡◌, length, take}
+use Rattle.palm_explain.specs.Entries.{written}
 use Rattle.palm_explain.proofs.spans.count_of.Given as goal
 
--- the spans so far are counted
+-- the reasons of the spans so far are counted
 abbrev pub invariant-loop-span : goal.invariant-loop-span
-invariant-loop-span l = record {
-  counted : l.count ≡ counted (take l.span-index l.spans);
-  fits : l.count < 2 ^ 64;
-}
+invariant-loop-span l = l.count ≡ length (written l.rows l.number (take l.span-index l.spans))

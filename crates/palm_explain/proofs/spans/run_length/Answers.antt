@@ -6,16 +6,16 @@ use Rattle.palm_explain.specs.Rows.{IsNext}
 use Rattle.palm_explain.proofs.RowSpans.{run_span}
 use Rattle.palm_explain.proofs.spans.run_length.Goals as goal
 
-pub loop-count-preserved : goal.loop-count-preserved
-loop-count-preserved c =
+pub loop-var-preserved : goal.loop-var-preserved
+loop-var-preserved c =
     let r = c.args.row.now in
-    let n = c.loop-count.count in
-    let next = c.follows.ensures c.if-follows.true in
-    let i = c.loop-count.invariant in
+    let n = c.loop-var.count in
+    let next = c.follows.ensures c.loop-var-test.true in
+    let i = c.loop-var.invariant in
     let at = i.place in
     let made : Pair = record { var = c.args.var; value = next.0 } in
     let lt = slice_get_within c.args.reasons.now (c.args.start + n) made next.1 in
-    let here : c.loop-count.place ≡ c.place_near-place.result + 1 - 1 + n = omega (arith, at) in
+    let here : c.loop-var.place ≡ c.place_near-place.result + 1 - 1 + n = omega (arith, at) in
     let last : IsNext r c.args.var c.args.reasons.now (c.args.start + n) (c.place_near-place.result + 1 - 1 + n) = subst (IsNext r c.args.var c.args.reasons.now (c.args.start + n)) here next in record {
       some = omega arith;
       within = omega (arith, lt);
@@ -26,10 +26,6 @@ loop-count-preserved c =
       ];
     }
 
-pub returns-else-follows-clause-run : goal.returns-else-follows-clause-run
-returns-else-follows-clause-run c n p q first last removed =
-    run_span c.args.row.now c.requires.formed c.args.var c.args.reasons.now c.args.start (c.place_near-place.result + 1 - 1) c.loop-count.count c.loop-count.invariant.run n p q c.loop-count.invariant.some first last removed
-
-pub returns-after-loop-count-clause-run : goal.returns-after-loop-count-clause-run
-returns-after-loop-count-clause-run c n p q first last removed =
-    run_span c.args.row.now c.requires.formed c.args.var c.args.reasons.now c.args.start (c.place_near-place.result + 1 - 1) c.loop-count.count c.loop-count.invariant.run n p q c.loop-count.invariant.some first last removed
+pub returns-clause-run : goal.returns-clause-run
+returns-clause-run c n p q first last removed =
+    run_span c.args.row.now c.requires.formed c.args.var c.args.reasons.now c.args.start (c.place_near-place.result + 1 - 1) c.loop-var.count c.loop-var.invariant.run n p q c.loop-var.invariant.some first last removed

@@ -1,18 +1,18 @@
-use Rattle.std.proofs.Common.{◌≡◌, ◌∙◌, ◌+◌, ◌^◌, ◌<◌, ◌++◌, ◌∷◌, [], false, not, Contains, vec_capacity, refl, sym, ap, subst, arith}
+use Rattle.std.proofs.Common.{◌≡◌, ◌∙◌, ◌+◌, ◌^◌, ◌<◌, ◌++◌, ◌∷◌, [], false, true, length, Contains, vec_capacity, refl, sym, ap, subst, arith}
 use Rattle.palm_explain.specs.declared.entry.Entry.{Entry}
 use Rattle.palm_base.proofs.cited.Members.{member_same}
 use Rattle.palm_model.specs.Log.{Removal, log_pairs}
-use Rattle.palm_explain.specs.Entries.{AreSpansOf, IsWhole, counted, log_of}
+use Rattle.palm_explain.specs.Entries.{IsWhole, log_of, written}
 use Rattle.palm_explain.specs.Explanations.{Explanations}
 use Rattle.palm_explain.proofs.Reasons.{entry_pair}
 use Rattle.palm_explain.proofs.RowNumbers.{keeps_all}
-use Rattle.palm_explain.proofs.Spanned.{counted_fits, spanned_spans}
+use Rattle.palm_explain.proofs.Spanned.{spanned_spans}
 use Rattle.palm_explain.proofs.Stores.{entered_pushed, log_like, log_pushed, on_err, whole_like, whole_pushed}
 use Rattle.palm_explain.proofs.store.ExplainStore.enter_spans.Goals as goal
 
 pub note-requires-clause-begun : goal.note-requires-clause-begun
 note-requires-clause-begun c e m =
-    let here = subst (λ es. Contains es e) (c.deref.ensures.value ∙ c.reserve-2.ensures.items) m in
+    let here = subst (λ es. Contains es e) (c.deref-2.ensures.value ∙ c.reserve-2.ensures.items) m in
     let first = c.self.invariant.begun e here in
     let below = c.self.invariant.entered.below e here in (first.0, first.1, (let le = first.2 in omega (arith, le, below)))
 
@@ -50,16 +50,15 @@ invariant_of-self-2 c =
     let rows = c.self.inside.rows.items in
     let entries = c.self.inside.log.items in
     let next = c.self.inside.next in
-    let reasons = c.requires.spanned.0 in
     let e : Entry = record { number = next; pair = c.args.pair; by = c.args.by; mark = false; spans = c.in_ok-own.own } in
     let fresh : (f : Entry) → Contains entries f → f.pair ≡ e.pair → ⊥ = λ f m same. (rw (← c.self.view_is) at c.requires.fresh) (member_same (log_pairs (log_of rows entries)) f.pair e.pair same (entry_pair rows entries f m)) in
     let same = c.in_ok-own.ensures in
-    let spans = subst (λ ss. AreSpansOf rows next ss reasons) (sym same) (spanned_spans entries rows next c.self.invariant.entered c.args.spans.now reasons (rw (← c.self.view_is) at c.requires.spanned.1)) in
-    let fits = subst (λ ss. counted ss < 2 ^ 64) (sym same) (counted_fits c.count_of.result (counted c.args.spans.now) c.count_of.ensures (c.is_none.ensures ∙ ap not c.if-is_none.false)) in
+    let known : c.are_countable.result ≡ true = c.if-not-are_countable.false in
+    let fits = subst (λ ss. length (written rows next ss) < 2 ^ 64) (sym same) (rw c.deref.ensures.value at c.are_countable.ensures known next) in
     let pushed = c.push_reserved.ensures.items ∙ ap (λ es. es ++ e ∷ []) c.reserve-2.ensures.items in
     subst (λ es. IsWhole es c.put_number.new.rows.items (next + 1) (vec_capacity c.reserve.new.self) c.note.new.self) (sym pushed)
     (whole_pushed entries rows c.put_number.new.rows.items next (vec_capacity c.self.inside.restored) (vec_capacity c.reserve.new.self) c.self.inside.firsts c.note.new.self e c.self.invariant
-    (entered_pushed entries rows c.put_number.new.rows.items next e c.self.invariant.entered c.put_number.ensures.formed c.if-number.false refl fresh c.in_ok-put_number.ensures.there c.put_number.ensures.others reasons spans fits) refl refl
+    (entered_pushed entries rows c.put_number.new.rows.items next e c.self.invariant.entered c.put_number.ensures.formed c.if-number.false refl fresh c.in_ok-put_number.ensures.there c.put_number.ensures.others fits) refl refl
     (omega (arith, c.in_ok-reserve.ensures.ok, c.len.ensures)) c.note.ensures.formed c.note.ensures.stays c.in_ok-note.ensures.noted)
 
 pub returns-clause-ok : goal.returns-clause-ok
@@ -69,7 +68,7 @@ returns-clause-ok c reasons spanned =
     let next = c.self.inside.next in
     let e : Entry = record { number = next; pair = c.args.pair; by = c.args.by; mark = false; spans = c.in_ok-own.own } in
     let fresh : (f : Entry) → Contains entries f → f.pair ≡ e.pair → ⊥ = λ f m same. (rw (← c.self.view_is) at c.requires.fresh) (member_same (log_pairs (log_of rows entries)) f.pair e.pair same (entry_pair rows entries f m)) in
-    let spans = subst (λ ss. AreSpansOf rows next ss reasons) (sym c.in_ok-own.ensures) (spanned_spans entries rows next c.self.invariant.entered c.args.spans.now reasons (rw (← c.self.view_is) at spanned)) in
+    let spans = subst (λ ss. written rows next ss ≡ reasons) (sym c.in_ok-own.ensures) (spanned_spans entries rows next c.self.invariant.entered c.args.spans.now reasons (rw (← c.self.view_is) at spanned)) in
     let pushed = c.push_reserved.ensures.items ∙ ap (λ es. es ++ e ∷ []) c.reserve-2.ensures.items in
     let log = ap (log_of c.put_number.new.rows.items) pushed
     ∙ log_pushed entries rows c.put_number.new.rows.items next e c.self.invariant.entered c.put_number.ensures.formed c.if-number.false refl fresh c.in_ok-put_number.ensures.there c.put_number.ensures.others reasons spans in
