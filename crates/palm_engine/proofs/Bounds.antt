@@ -42,7 +42,7 @@ member_from low vs v m le = member_filter (λ w. not (int_lt w low)) vs v m (ap 
 
 -- ---- lists
 
-ascends_both : (xs ys : List ℤ) → Ascends xs → Ascends ys → ((x y : ℤ) → Contains xs x → Contains ys y → x <ℤ y) → Ascends (xs ++ ys)
+pub ascends_both : (xs ys : List ℤ) → Ascends xs → Ascends ys → ((x y : ℤ) → Contains xs x → Contains ys y → x <ℤ y) → Ascends (xs ++ ys)
 ascends_both [] ys a b below = b
 ascends_both (x ∷ xs) ys a b below =
     Ascends-cons x (xs ++ ys) (λ v m. elim (Contains-append_cases xs ys v m) [

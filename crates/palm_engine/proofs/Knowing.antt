@@ -1,5 +1,5 @@
 -- A rule that a walk knows stays known while values of its own variable go.
-use Rattle.std.proofs.Common.{◌≡◌, ℕ, ◌<◌, ℤ, ◌≤ℤ◌, Option, Some, None, IfSome, MatchOption, pos, ◌+ℤ◌, ◌<ℤ◌, List, refl, length, All, Contains, sym, ap, ◌∙◌, subst, arith}
+use Rattle.std.proofs.Common.{◌≡◌, ℕ, ◌<◌, ℤ, ◌≤ℤ◌, Option, Some, None, IfSome, MatchOption, pos, ◌+ℤ◌, ◌<ℤ◌, List, length, All, Contains, sym, ap, ◌∙◌, subst, arith}
 use Rattle.std.specs.Bool.{⊤}
 use Rattle.std.proofs.lemmas.Int.{ints}
 use Rattle.palm_base.specs.declared.terms.Pair.{Pair}
@@ -21,8 +21,7 @@ use Rattle.palm_explain.specs.declared.spans.Span.{Span}
 use Rattle.palm_filter.specs.Rules.{FitsRule, listed_pairs, written}
 use Rattle.palm_filter.specs.declared.rule.Interval.{Interval}
 use Rattle.palm_filter.specs.declared.rule.Known.{Known}
-use Rattle.palm_filter.specs.declared.rule.Rule.{Rule}
-use Rattle.palm_filter.specs.declared.rule.Rule.TheVariants.{Empty, Above, Below, At, Other, Listed}
+use Rattle.palm_filter.specs.declared.rule.Rule.TheVariants.{Listed}
 use Rattle.palm_engine.specs.declared.filtering.Filtering.{Filtering}
 use Rattle.palm_engine.specs.declared.reasons.ReasonRoom.{ReasonRoom}
 use Rattle.palm_engine.specs.Changed.{TakesOut}
@@ -85,21 +84,11 @@ module _ (rows after : List Row) (x : ℕ) (v : ℤ) (same : initial_of after �
 
 -- ---- a rule of a value
 
--- of a rule that is no list the intervals tell nothing
-pub written_any : (d : Domains) (c : Con) (rule : Rule) (is js : List Interval) (x : ℕ) (v : ℤ) → (rule ≡ Listed → js ≡ is) → written d c rule is x v ≡ written d c rule js x v
-written_any d c Empty is js x v same = refl
-written_any d c (Above s) is js x v same = refl
-written_any d c (Below s) is js x v same = refl
-written_any d c (At s) is js x v same = refl
-written_any d c (Other s) is js x v same = refl
-written_any d c Listed is js x v same = ap (listed_pairs d) (sym (same refl))
-
--- a rule stays known where the intervals and the spans of a list stay
-pub known_on : (rows : List Row) (c : Con) (x : ℕ) (v : ℤ) (known : Known) (is js : List Interval) (spans now : List Span) → (known.rule ≡ Listed → js ≡ is) → (known.rule ≡ Listed → now ≡ spans)
-    → IsKnown rows c x v known is spans → IsKnown rows c x v known js now
-known_on rows c x v known is js spans now same stay k = record {
-  fits = λ w ge le wants. sym (written_any (initial_of rows) c known.rule is js x w same) ∙ k.fits w ge le wants;
-  listed = λ e. subst (λ ss. IsToldBy (initial_of rows) (listed_pairs (initial_of rows) js) ss) (sym (stay e)) (subst (λ ls. IsToldBy (initial_of rows) (listed_pairs (initial_of rows) ls) spans) (sym (same e)) (k.listed e));
+-- a rule stays known where the spans of a list stay
+pub known_on : (rows : List Row) (c : Con) (x : ℕ) (v : ℤ) (known : Known) (intervals : List Interval) (spans now : List Span) → (known.rule ≡ Listed → now ≡ spans) → IsKnown rows c x v known intervals spans → IsKnown rows c x v known intervals now
+known_on rows c x v known intervals spans now stay k = record {
+  fits = k.fits;
+  listed = λ e. subst (λ ss. IsToldBy (initial_of rows) (listed_pairs (initial_of rows) intervals) ss) (sym (stay e)) (k.listed e);
 }
 
 pub covered_last : (v : ℤ) (o : Option Known) (known : Known) → o ≡ Some known → (k : Known) × (o ≡ Some k) × (v ≤ℤ k.last) → v ≤ℤ known.last

@@ -34,6 +34,7 @@ pub mod Spanning
 pub mod Spending
 pub mod Staying
 pub mod Taking
+pub mod Telling
 pub mod Unmarking
 pub mod Waking
 pub mod Within

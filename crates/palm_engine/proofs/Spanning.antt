@@ -86,7 +86,7 @@ values_cut vs i e f is at =
 -- ---- spans
 
 pub run_spans : (pairs : List Pair) (x : ℕ) (values : List ℤ) (low high : ℤ) → IsRun pairs x values → slice_get values 0 ≡ Some low → slice_get values (length values - 1) ≡ Some high
-    → IsSpanOf pairs (record { var = x; low = low; high = high; count = length values }) values
+    → IsSpanOf pairs (record { var = x; low = low; high = high }) values
 run_spans pairs x values low high run first last =
     let rise = run.ascends in
     let some = slice_get_within values 0 low first in
@@ -101,7 +101,6 @@ run_spans pairs x values low high run first last =
             (omega (arith, ints, above, lowest, m.2), omega (arith, ints, below, highest, m.2), run.each v m)),
         (λ r. run.whole low v high (0, some, lowest) (length values - 1, omega (arith, some), highest) r.0 r.1 r.2),
       );
-      count = refl;
     }
 
 pub spanned_more : (pairs : List Pair) (spans : List Span) (reasons : List Pair) (s : Span) (values : List ℤ) → AreSpanned pairs spans reasons → IsSpanOf pairs s values → AreSpanned pairs (spans ++ s ∷ []) (reasons ++ pairs_with s.var values)

@@ -1,5 +1,5 @@
 -- How spans stand for reasons, and what a walk knows of them.
-use Rattle.std.specs.Prelude.{◌≡◌, ℤ, ℕ, ◌≤ℤ◌, Some, IfSome, List, take, drop, Contains}
+use Rattle.std.specs.Prelude.{◌≡◌, ℤ, ℕ, ◌≤ℤ◌, ◌++◌, Some, IfSome, List, take, drop, Contains}
 use Rattle.palm_base.specs.Ascending.{Ascends}
 use Rattle.palm_base.specs.declared.terms.Pair.{Pair}
 use Rattle.palm_domain.specs.Rows.{Row, initial_of, present_of}
@@ -30,6 +30,10 @@ pub record IsRun (pairs : List Pair) (x : ℕ) (values : List ℤ) : Type 0 wher
 abbrev pub IsToldBy : Domains → List Pair → List Span → Type 0
 IsToldBy initial reasons spans = (pairs : List Pair) → ((p : Pair) → Contains pairs p → Has initial p.var p.value)
     → ((p : Pair) → Contains reasons p → Contains pairs p) → AreSpanned pairs spans reasons
+
+-- besides what the spans stood for before they stand for these
+abbrev pub TellsMore : Domains → List Span → List Span → List Pair → Type 0
+TellsMore initial before after more = (reasons : List Pair) → IsToldBy initial reasons before → IsToldBy initial (reasons ++ more) after
 
 -- a rule of the reasons of the values of x from v on, as a walk over them knows it: it fits them now, and of a list the spans are there
 pub record IsKnown (rows : List Row) (c : Con) (x : ℕ) (v : ℤ) (known : Known) (intervals : List Interval) (spans : List Span) : Type 0 where

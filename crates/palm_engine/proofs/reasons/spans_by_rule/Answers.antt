@@ -18,7 +18,7 @@ returns-clause-told g c = λ t pairs declared all.
     let e = ruled rows c.variables.ensures.initial_ascend c.variables.ensures.present_ascend c.variables.ensures.inside con x v c.requires.formed c.requires.goes.present c.requires.goes.unsupported c.requires.goes.filled
     c.in-Some.known room.intervals.items last is.fits in
     subst (λ rs. AreSpanned pairs c.write_spans.new.out.items rs) e
-    (c.in_ok-write_spans.ensures.told con x is.listed pairs declared (λ p m. all p (subst (λ rs. Contains rs p) e m)))
+    (c.in_ok-write_spans.ensures.told con x room.intervals.items is.listed pairs declared (λ p m. all p (subst (λ rs. Contains rs p) e m)))
 
 pub returns-clause-knows : goal.returns-clause-knows
 returns-clause-knows g c =
@@ -28,5 +28,5 @@ returns-clause-knows g c =
     let v = c.args.pair.now.value in
     let room = c.is_ruled.new.room in
     let is = subst (λ o. IfSome o (λ k. IsKnown rows con x v k room.intervals.items room.spans.items)) c.in-Some.is c.in_ok-is_ruled.ensures.knows in
-    subst (λ o. IfSome o (λ k. IsKnown rows con x v k c.write_spans.new.intervals.items c.write_spans.new.out.items)) (sym c.in-Some.is)
-    (known_on rows con x v c.in-Some.known room.intervals.items c.write_spans.new.intervals.items room.spans.items c.write_spans.new.out.items c.write_spans.ensures.intervals c.write_spans.ensures.spans is)
+    subst (λ o. IfSome o (λ k. IsKnown rows con x v k room.intervals.items c.write_spans.new.out.items)) (sym c.in-Some.is)
+    (known_on rows con x v c.in-Some.known room.intervals.items room.spans.items c.write_spans.new.out.items c.write_spans.ensures.spans is)
