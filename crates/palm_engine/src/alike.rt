@@ -122,6 +122,7 @@ fn take_out_unless<F: Filter, L: Ledger>(
     if pair.value == but {
         examine(filtering, constraint, pair, room, steps)
     } else {
+        room.known = None;
         take_out(filtering, constraint, pair, room)
     }
 }

@@ -17,7 +17,7 @@ ghost use Rattle.palm_engine.specs.declared.filtering.Filtering.{Filtering as Fi
 use crate::filtering::Filtering;
 use crate::posted::Posted;
 use crate::reasons::ReasonRoom;
-use crate::values::take_out_on;
+use crate::values::take_out;
 use palm_base::{NoMemory, Pair, Steps, Value, Var};
 use palm_domain::{DomainStore, Placed};
 use palm_filter::Filter;
@@ -59,7 +59,7 @@ fn rise<F: Filter, L: Ledger>(
         ) {
             return Ok(Some(value));
         }
-        take_out_on(filtering, constraint, Pair { var, value }, room)?;
+        take_out(filtering, constraint, Pair { var, value }, room)?;
         next = filtering.store.next_placed(var, placed);
     }
     Ok(None)
@@ -127,13 +127,17 @@ fn take_out_from<F: Filter>(
     from: Option<Placed>,
     room: &mut ReasonRoom,
 ) -> Result<(), NoMemory>
-    requires advanced { (active : List Active) × (before : FilteringTerm) × Advanced active (active_of F.meaning constraint.now) var (placed_value from) before filtering.old }
+    requires advanced { (active : List Active) × (before : FilteringTerm) ×
+        Advanced active (active_of F.meaning constraint.now) var (placed_value from) before filtering.old }
     requires over { Contains (scope (active_of F.meaning constraint.now).con) var }
     requires placed { IfSome from (IsPlaced filtering.old.store var) }
-    requires lacking { LacksFrom filtering.old (active_of F.meaning constraint.now) var (placed_value from) }
-    ensures advanced { (active : List Active) (before : FilteringTerm) → Advanced active (active_of F.meaning constraint.now) var (placed_value from) before filtering.old
+    requires lacking { LacksFrom filtering.old
+        (active_of F.meaning constraint.now) var (placed_value from) }
+    ensures advanced { (active : List Active) (before : FilteringTerm) → Advanced active
+        (active_of F.meaning constraint.now) var (placed_value from) before filtering.old
         → OnOk result (Advanced active (active_of F.meaning constraint.now) var None before filtering.new) }
-    ensures part { (active : List Active) (before : FilteringTerm) → Advanced active (active_of F.meaning constraint.now) var (placed_value from) before filtering.old
+    ensures part { (active : List Active) (before : FilteringTerm) → Advanced active
+        (active_of F.meaning constraint.now) var (placed_value from) before filtering.old
         → OnErr result (WalkedPart active (active_of F.meaning constraint.now) (pairs_of var (values_of (initial_of before.store) var)) before filtering.new) }
     ensures revising { (active : List Active) → IsRevising filtering.old active (active_of F.meaning constraint.now)
         → IsRevising filtering.new active (active_of F.meaning constraint.now) }
@@ -146,7 +150,7 @@ fn take_out_from<F: Filter>(
             var,
             value: placed.value,
         };
-        take_out_on(filtering, constraint, pair, room)?;
+        take_out(filtering, constraint, pair, room)?;
         next = filtering.store.next_placed(var, placed);
     }
     Ok(())

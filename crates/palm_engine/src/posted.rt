@@ -194,10 +194,12 @@ impl<F: Filter> Posted<F> {
     ) -> Result<bool, NoMemory>
         requires formed { IsInForm (length store.now) (active_of F.meaning self.now) }
         requires goes { Goes store.now (active_of F.meaning self.now).con pair.now }
-        requires knows { Knows store.now (active_of F.meaning self.now).con pair.now.var pair.now.value room.old }
+        requires knows { Knows store.now (active_of F.meaning self.now).con pair.now.var
+            pair.now.value room.old }
         ensures told { IfOk result (λ told. told ≡ true
             → IsToldBy (initial_of store.now) (reason_in store.now (active_of F.meaning self.now).con pair.now) room.new.spans.items) }
-        ensures knows { OnOk result (Knows store.now (active_of F.meaning self.now).con pair.now.var pair.now.value room.new) }
+        ensures knows { OnOk result (Knows store.now (active_of F.meaning self.now).con
+            pair.now.var pair.now.value room.new) }
     {
         match self {
             Posted::Decision(_) | Posted::Negation { .. } => {

@@ -91,7 +91,8 @@ fn list_spans(
     intervals: &[Interval],
     out: &mut Vec<Span>,
 ) -> Result<(), NoMemory>
-    ensures { OnOk result (IsToldBy (initial_of store.now) (listed_pairs (initial_of store.now) intervals.now) out.new.items) }
+    ensures { OnOk result (IsToldBy (initial_of store.now)
+        (listed_pairs (initial_of store.now) intervals.now) out.new.items) }
 {
     out.clear();
     for interval in intervals {
@@ -111,7 +112,8 @@ struct Ends {
 fn ends_of(store: &DomainStore, var: Var) -> Option<Ends>
     ensures ascend { Ascends (declared_values store.now var) }
     ensures none { IfNone result (declared_values store.now var ≡ []) }
-    ensures some { IfSome result (λ ends. (v : ℤ) → IsDeclared store.now var v → (ends.least ≤ℤ v) × (v ≤ℤ ends.greatest)) }
+    ensures some { IfSome result (λ ends. (v : ℤ) → IsDeclared store.now var v
+        → (ends.least ≤ℤ v) × (v ≤ℤ ends.greatest)) }
 {
     if var.0 >= store.variables() {
         return None;
@@ -126,7 +128,8 @@ fn ends_of(store: &DomainStore, var: Var) -> Option<Ends>
 /// The least number from this one on that is not below the ends, if it is not above them.
 fn first_from(low: &i64, ends: &Ends) -> Option<Value>
     ensures none { IfNone result (ends.now.greatest <ℤ low.now) }
-    ensures some { IfSome result (λ first. (low.now ≤ℤ first) × ((v : ℤ) → low.now ≤ℤ v → ends.now.least ≤ℤ v → first ≤ℤ v)) }
+    ensures some { IfSome result (λ first. (low.now ≤ℤ first) × ((v : ℤ) → low.now ≤ℤ v
+        → ends.now.least ≤ℤ v → first ≤ℤ v)) }
 {
     if *low <= number_of(&ends.least) {
         Some(ends.least)
@@ -140,7 +143,8 @@ fn first_from(low: &i64, ends: &Ends) -> Option<Value>
 /// The greatest number up to this one that is not above the ends, if it is not below them.
 fn last_up_to(high: &i64, ends: &Ends) -> Option<Value>
     ensures none { IfNone result (high.now <ℤ ends.now.least) }
-    ensures some { IfSome result (λ last. (last ≤ℤ high.now) × ((v : ℤ) → v ≤ℤ high.now → v ≤ℤ ends.now.greatest → v ≤ℤ last)) }
+    ensures some { IfSome result (λ last. (last ≤ℤ high.now) × ((v : ℤ) → v ≤ℤ high.now
+        → v ≤ℤ ends.now.greatest → v ≤ℤ last)) }
 {
     if number_of(&ends.greatest) <= *high {
         Some(ends.greatest)
@@ -153,7 +157,8 @@ fn last_up_to(high: &i64, ends: &Ends) -> Option<Value>
 
 /// The value of this number, where it is between the ends.
 fn value_at(number: &i64, ends: &Ends) -> Option<Value>
-    ensures none { IfNone result (ends.now.least ≤ℤ number.now → number.now ≤ℤ ends.now.greatest → ⊥) }
+    ensures none { IfNone result (ends.now.least ≤ℤ number.now → number.now ≤ℤ ends.now.greatest
+        → ⊥) }
     ensures some { IfSome result (λ value. value ≡ number.now) }
 {
     if number_of(&ends.least) <= *number && *number <= number_of(&ends.greatest) {
@@ -268,7 +273,8 @@ fn write_spans(
     value: &Value,
     out: &mut Vec<Span>,
 ) -> Result<(), NoMemory>
-    ensures told { (c : Con) (x : ℕ) (intervals : List IntervalTerm) → (rule.now ≡ Listed → IsToldBy (initial_of store.now) (listed_pairs (initial_of store.now) intervals) out.old.items)
+    ensures told { (c : Con) (x : ℕ) (intervals : List IntervalTerm) → (rule.now ≡ Listed
+        → IsToldBy (initial_of store.now) (listed_pairs (initial_of store.now) intervals) out.old.items)
         → OnOk result (IsToldBy (initial_of store.now) (written (initial_of store.now) c rule.now intervals x value.now) out.new.items) }
     ensures spans { rule.now ≡ Listed → out.new.items ≡ out.old.items }
 {
@@ -292,7 +298,8 @@ fn list_spans_of(
     intervals: &[Interval],
     out: &mut Vec<Span>,
 ) -> Result<(), NoMemory>
-    ensures { OnOk result (rule.now ≡ Listed → IsToldBy (initial_of store.now) (listed_pairs (initial_of store.now) intervals.now) out.new.items) }
+    ensures { OnOk result (rule.now ≡ Listed → IsToldBy (initial_of store.now)
+        (listed_pairs (initial_of store.now) intervals.now) out.new.items) }
 {
     match rule {
         Rule::Listed => list_spans(store, intervals, out),
@@ -309,7 +316,8 @@ fn learn<F: Filter>(
 ) -> Result<bool, NoMemory>
     requires formed { IsWellFormed (length store.now) (F.meaning filter.now) }
     requires goes { Goes store.now (F.meaning filter.now) pair.now }
-    ensures knows { OnOk result (Knows store.now (F.meaning filter.now) pair.now.var pair.now.value room.new) }
+    ensures knows { OnOk result (Knows store.now (F.meaning filter.now) pair.now.var
+        pair.now.value room.new) }
     ensures covers { IfOk result (λ told. told ≡ true → Covers pair.now.value room.new) }
 {
     room.known = None;
@@ -334,7 +342,8 @@ fn is_ruled<F: Filter>(
     requires formed { IsWellFormed (length store.now) (F.meaning filter.now) }
     requires goes { Goes store.now (F.meaning filter.now) pair.now }
     requires knows { Knows store.now (F.meaning filter.now) pair.now.var pair.now.value room.old }
-    ensures knows { OnOk result (Knows store.now (F.meaning filter.now) pair.now.var pair.now.value room.new) }
+    ensures knows { OnOk result (Knows store.now (F.meaning filter.now) pair.now.var
+        pair.now.value room.new) }
     ensures covers { IfOk result (λ told. told ≡ true → Covers pair.now.value room.new) }
 {
     if room.covers(&pair.value) {
@@ -356,7 +365,8 @@ pub(crate) fn spans_by_rule<F: Filter>(
     requires knows { Knows store.now (F.meaning filter.now) pair.now.var pair.now.value room.old }
     ensures told { IfOk result (λ told. told ≡ true
         → IsToldBy (initial_of store.now) (reason_in store.now (F.meaning filter.now) pair.now) room.new.spans.items) }
-    ensures knows { OnOk result (Knows store.now (F.meaning filter.now) pair.now.var pair.now.value room.new) }
+    ensures knows { OnOk result (Knows store.now (F.meaning filter.now) pair.now.var
+        pair.now.value room.new) }
 {
     // The store tells here what it holds of its values: a rule is known of the reasons where they ascend.
     prove!(store.variables() > 0);

@@ -27,7 +27,7 @@ use std::sync::ledger::Ledger;
 /// Takes a present value out that lacks support, in a walk over the values of its variable from which the room has a rule of
 /// their reasons, if there is one. Without memory it stays.
 #[inline(always)]
-pub(crate) fn take_out_on<F: Filter>(
+pub(crate) fn take_out<F: Filter>(
     filtering: &mut Filtering,
     constraint: &Posted<F>,
     pair: Pair,
@@ -38,13 +38,15 @@ pub(crate) fn take_out_on<F: Filter>(
     requires over { Contains (scope (active_of F.meaning constraint.now).con) pair.var }
     requires present { Has (present_of filtering.old.store) pair.var pair.value }
     requires lacking { LacksSupport (present_of filtering.old.store) (active_of F.meaning constraint.now).con pair.var pair.value }
-    requires knows { Knows filtering.old.store (active_of F.meaning constraint.now).con pair.var pair.value room.old }
+    requires knows { Knows filtering.old.store (active_of F.meaning constraint.now).con
+        pair.var pair.value room.old }
     ensures walked { (active : List Active) → IsRevising filtering.old active (active_of F.meaning constraint.now)
         → OnOk result (Walked active (active_of F.meaning constraint.now) (pair ∷ []) filtering.old filtering.new) }
     ensures revising { (active : List Active) → IsRevising filtering.old active (active_of F.meaning constraint.now)
         → IsRevising filtering.new active (active_of F.meaning constraint.now) }
     ensures gone { OnOk result (LosesPair filtering.old.store filtering.new.store pair.var pair.value) }
-    ensures knows { OnOk result (Knows filtering.new.store (active_of F.meaning constraint.now).con pair.var pair.value room.new) }
+    ensures knows { OnOk result (Knows filtering.new.store
+        (active_of F.meaning constraint.now).con pair.var pair.value room.new) }
     ensures err { OnErr result (filtering.new ≡ filtering.old) }
     ensures checks { filtering.new.checks ≡ filtering.old.checks }
 {
@@ -58,31 +60,6 @@ pub(crate) fn take_out_on<F: Filter>(
     }
     constraint.reason(&filtering.store, Pair { var, value }, &mut room.pairs)?;
     filtering.remove(Pair { var, value }, constraint.cid(), room.pairs.as_slice())
-}
-
-/// Takes a present value out that lacks support. Without memory it stays.
-#[inline(always)]
-pub(crate) fn take_out<F: Filter>(
-    filtering: &mut Filtering,
-    constraint: &Posted<F>,
-    pair: Pair,
-    room: &mut ReasonRoom,
-) -> Result<(), NoMemory>
-    requires revising { (active : List Active) × IsRevising filtering.old active (active_of F.meaning constraint.now) }
-    requires filled { AllFilled (present_of filtering.old.store) }
-    requires over { Contains (scope (active_of F.meaning constraint.now).con) pair.var }
-    requires present { Has (present_of filtering.old.store) pair.var pair.value }
-    requires lacking { LacksSupport (present_of filtering.old.store) (active_of F.meaning constraint.now).con pair.var pair.value }
-    ensures walked { (active : List Active) → IsRevising filtering.old active (active_of F.meaning constraint.now)
-        → OnOk result (Walked active (active_of F.meaning constraint.now) (pair ∷ []) filtering.old filtering.new) }
-    ensures revising { (active : List Active) → IsRevising filtering.old active (active_of F.meaning constraint.now)
-        → IsRevising filtering.new active (active_of F.meaning constraint.now) }
-    ensures gone { OnOk result (LosesPair filtering.old.store filtering.new.store pair.var pair.value) }
-    ensures err { OnErr result (filtering.new ≡ filtering.old) }
-    ensures checks { filtering.new.checks ≡ filtering.old.checks }
-{
-    room.known = None;
-    take_out_on(filtering, constraint, pair, room)
 }
 
 /// Asks for a present value of the constraint's variable, and takes it out where it lacks support. Without memory
@@ -118,6 +95,7 @@ pub(crate) fn examine<F: Filter, L: Ledger>(
     ) {
         return Ok(());
     }
+    room.known = None;
     take_out(filtering, constraint, Pair { var, value }, room)
 }
 

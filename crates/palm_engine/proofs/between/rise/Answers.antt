@@ -88,65 +88,65 @@ returns-then-is_supported-clause-asked g c =
     let asked = c.is_supported.ensures.counted in
     omega (arith, later, asked)
 
-pub take_out_on-requires-clause-revising : goal.take_out_on-requires-clause-revising
-take_out_on-requires-clause-revising g c =
+pub take_out-requires-clause-revising : goal.take_out-requires-clause-revising
+take_out-requires-clause-revising g c =
     let r = c.requires.revising in
     let w = c.loop-next.invariant.0 r.0 r.1 in
     (r.0, revising_checks r.0 (active_of g.F.Filter.meaning c.args.constraint.now) c.loop-next.filtering c.is_supported.new.checks w.advanced.revising)
 
-pub take_out_on-requires-clause-filled : goal.take_out_on-requires-clause-filled
-take_out_on-requires-clause-filled g c =
+pub take_out-requires-clause-filled : goal.take_out-requires-clause-filled
+take_out-requires-clause-filled g c =
     let r = c.requires.revising in
     let owner = active_of g.F.Filter.meaning c.args.constraint.now in
     let f = c.args.filtering.now in
     let w = subst (λ n. WalkedValues r.0 owner c.args.var (placed_value n) f c.loop-next.filtering c.args.steps.now c.loop-next.steps) c.in-Some.is (c.loop-next.invariant.0 r.0 r.1) in
     values_filled r.0 owner c.args.var c.in-Some.placed.value f c.loop-next.filtering w.advanced
 
-pub take_out_on-requires-clause-present : goal.take_out_on-requires-clause-present
-take_out_on-requires-clause-present g c =
+pub take_out-requires-clause-present : goal.take_out-requires-clause-present
+take_out-requires-clause-present g c =
     let r = c.requires.revising in
     let owner = active_of g.F.Filter.meaning c.args.constraint.now in
     let w = subst (λ n. WalkedValues r.0 owner c.args.var (placed_value n) c.args.filtering.now c.loop-next.filtering c.args.steps.now c.loop-next.steps) c.in-Some.is (c.loop-next.invariant.0 r.0 r.1) in
     w.advanced.present
 
-pub take_out_on-requires-clause-lacking : goal.take_out_on-requires-clause-lacking
-take_out_on-requires-clause-lacking g c = c.is_supported.ensures.lacking c.if-is_supported.false
+pub take_out-requires-clause-lacking : goal.take_out-requires-clause-lacking
+take_out-requires-clause-lacking g c = c.is_supported.ensures.lacking c.if-is_supported.false
 
-pub take_out_on-requires-clause-knows : goal.take_out_on-requires-clause-knows
-take_out_on-requires-clause-knows g c =
+pub take_out-requires-clause-knows : goal.take_out-requires-clause-knows
+take_out-requires-clause-knows g c =
     let con = (active_of g.F.Filter.meaning c.args.constraint.now).con in
     subst (λ n. IfSome n (λ p. Knows c.loop-next.filtering.store con c.args.var p.value c.loop-next.room)) c.in-Some.is c.loop-next.invariant.2
 
-pub returns-in_err-take_out_on-clause-part : goal.returns-in_err-take_out_on-clause-part
-returns-in_err-take_out_on-clause-part g c = λ active r.
+pub returns-in_err-take_out-clause-part : goal.returns-in_err-take_out-clause-part
+returns-in_err-take_out-clause-part g c = λ active r.
     let owner = active_of g.F.Filter.meaning c.args.constraint.now in
     let f = c.args.filtering.now in
     let w = subst (λ n. WalkedValues active owner c.args.var (placed_value n) f c.loop-next.filtering c.args.steps.now c.loop-next.steps) c.in-Some.is (c.loop-next.invariant.0 active r) in
-    on_err_of c.from_residual.result (subst (λ (z : Filtering). WalkedPart active owner (pairs_of c.args.var (values_of (initial_of f.store) c.args.var)) f z) (sym c.in_err-take_out_on.ensures.err)
+    on_err_of c.from_residual.result (subst (λ (z : Filtering). WalkedPart active owner (pairs_of c.args.var (values_of (initial_of f.store) c.args.var)) f z) (sym c.in_err-take_out.ensures.err)
     (values_stopped active owner c.args.var c.in-Some.placed.value f c.loop-next.filtering c.is_supported.new.checks w.advanced
     (record { filled = values_filled active owner c.args.var c.in-Some.placed.value f c.loop-next.filtering w.advanced; has = w.advanced.present; lacks = c.is_supported.ensures.lacking c.if-is_supported.false })))
 
-pub returns-in_err-take_out_on-clause-revising : goal.returns-in_err-take_out_on-clause-revising
-returns-in_err-take_out_on-clause-revising g c = λ active r.
+pub returns-in_err-take_out-clause-revising : goal.returns-in_err-take_out-clause-revising
+returns-in_err-take_out-clause-revising g c = λ active r.
     let w = c.loop-next.invariant.0 active r in
-    c.take_out_on.ensures.revising active (revising_checks active (active_of g.F.Filter.meaning c.args.constraint.now) c.loop-next.filtering c.is_supported.new.checks w.advanced.revising)
+    c.take_out.ensures.revising active (revising_checks active (active_of g.F.Filter.meaning c.args.constraint.now) c.loop-next.filtering c.is_supported.new.checks w.advanced.revising)
 
-pub returns-in_err-take_out_on-clause-counted : goal.returns-in_err-take_out_on-clause-counted
-returns-in_err-take_out_on-clause-counted g c =
+pub returns-in_err-take_out-clause-counted : goal.returns-in_err-take_out-clause-counted
+returns-in_err-take_out-clause-counted g c =
     let r = c.requires.revising in
     let owner = active_of g.F.Filter.meaning c.args.constraint.now in
     let f = c.args.filtering.now in
     let w = subst (λ n. WalkedValues r.0 owner c.args.var (placed_value n) f c.loop-next.filtering c.args.steps.now c.loop-next.steps) c.in-Some.is (c.loop-next.invariant.0 r.0 r.1) in
-    values_counted r.0 owner c.args.var c.in-Some.placed.value f c.loop-next.filtering c.take_out_on.new.filtering c.args.steps.now c.loop-next.steps c.is_supported.new.steps w.advanced w.counted
-    (counted_one owner c.loop-next.filtering c.take_out_on.new.filtering c.loop-next.steps c.is_supported.new.steps c.is_supported.ensures.counted (c.take_out_on.ensures.checks ∙ c.is_supported.ensures.checks)
-    (λ other. ap (λ (z : Filtering). users_removals z.log.log) c.in_err-take_out_on.ensures.err))
+    values_counted r.0 owner c.args.var c.in-Some.placed.value f c.loop-next.filtering c.take_out.new.filtering c.args.steps.now c.loop-next.steps c.is_supported.new.steps w.advanced w.counted
+    (counted_one owner c.loop-next.filtering c.take_out.new.filtering c.loop-next.steps c.is_supported.new.steps c.is_supported.ensures.counted (c.take_out.ensures.checks ∙ c.is_supported.ensures.checks)
+    (λ other. ap (λ (z : Filtering). users_removals z.log.log) c.in_err-take_out.ensures.err))
 
 pub next_placed-next-requires-clause-var : goal.next_placed-next-requires-clause-var
 next_placed-next-requires-clause-var g c =
     let r = c.requires.revising in
     let owner = active_of g.F.Filter.meaning c.args.constraint.now in
     let w = c.loop-next.invariant.0 r.0 r.1 in
-    var_stored c.take_out_on.new.filtering r.0 owner (c.take_out_on.ensures.revising r.0 (revising_checks r.0 owner c.loop-next.filtering c.is_supported.new.checks w.advanced.revising)) c.args.var c.requires.over
+    var_stored c.take_out.new.filtering r.0 owner (c.take_out.ensures.revising r.0 (revising_checks r.0 owner c.loop-next.filtering c.is_supported.new.checks w.advanced.revising)) c.args.var c.requires.over
 
 pub next_placed-next-requires-clause-placed : goal.next_placed-next-requires-clause-placed
 next_placed-next-requires-clause-placed g c =
@@ -155,8 +155,8 @@ next_placed-next-requires-clause-placed g c =
     let now = c.loop-next.filtering in
     let w = c.loop-next.invariant.0 r.0 r.1 in
     let here = subst (λ n. IfSome n (λ p. IsPlaced now.store c.args.var p)) c.in-Some.is c.loop-next.invariant.1 in
-    walked_placed r.0 owner (pair_of c.args.var c.in-Some.placed.value ∷ []) (record now { checks = c.is_supported.new.checks }) c.take_out_on.new.filtering c.args.var c.in-Some.placed
-    (c.in_ok-take_out_on.ensures.walked r.0 (revising_checks r.0 owner now c.is_supported.new.checks w.advanced.revising)) here
+    walked_placed r.0 owner (pair_of c.args.var c.in-Some.placed.value ∷ []) (record now { checks = c.is_supported.new.checks }) c.take_out.new.filtering c.args.var c.in-Some.placed
+    (c.in_ok-take_out.ensures.walked r.0 (revising_checks r.0 owner now c.is_supported.new.checks w.advanced.revising)) here
 
 pub loop-next-smaller : goal.loop-next-smaller
 loop-next-smaller g c =
@@ -165,9 +165,9 @@ loop-next-smaller g c =
     let f = c.args.filtering.now in
     let w = subst (λ n. WalkedValues r.0 owner c.args.var (placed_value n) f c.loop-next.filtering c.args.steps.now c.loop-next.steps) c.in-Some.is (c.loop-next.invariant.0 r.0 r.1) in
     let vs = values_of (initial_of f.store) c.args.var in
-    let is_next = next_value c.next_placed-next.result (present_values c.take_out_on.new.filtering.store c.args.var) (c.in-Some.placed.value +ℤ pos 1) c.next_placed-next.ensures.next in
+    let is_next = next_value c.next_placed-next.result (present_values c.take_out.new.filtering.store c.args.var) (c.in-Some.placed.value +ℤ pos 1) c.next_placed-next.ensures.next in
     subst (λ n. left_from (placed_value c.next_placed-next.result) vs < left_from (placed_value n) vs) (sym c.in-Some.is)
-    (values_fewer r.0 owner c.args.var c.in-Some.placed.value (placed_value c.next_placed-next.result) f c.loop-next.filtering (present_values c.take_out_on.new.filtering.store c.args.var) w.advanced is_next)
+    (values_fewer r.0 owner c.args.var c.in-Some.placed.value (placed_value c.next_placed-next.result) f c.loop-next.filtering (present_values c.take_out.new.filtering.store c.args.var) w.advanced is_next)
 
 pub loop-next-preserved : goal.loop-next-preserved
 loop-next-preserved g c = (
@@ -175,11 +175,11 @@ loop-next-preserved g c = (
       let owner = active_of g.F.Filter.meaning c.args.constraint.now in
       let f = c.args.filtering.now in
       let now = c.loop-next.filtering in
-      let after = c.take_out_on.new.filtering in
+      let after = c.take_out.new.filtering in
       let w = subst (λ n. WalkedValues active owner c.args.var (placed_value n) f now c.args.steps.now c.loop-next.steps) c.in-Some.is (c.loop-next.invariant.0 active r) in
       let revising = revising_checks active owner now c.is_supported.new.checks w.advanced.revising in
-      let told = c.in_ok-take_out_on.ensures in
-      let is_next = next_value c.next_placed-next.result (present_values c.take_out_on.new.filtering.store c.args.var) (c.in-Some.placed.value +ℤ pos 1) c.next_placed-next.ensures.next in
+      let told = c.in_ok-take_out.ensures in
+      let is_next = next_value c.next_placed-next.result (present_values c.take_out.new.filtering.store c.args.var) (c.in-Some.placed.value +ℤ pos 1) c.next_placed-next.ensures.next in
       record {
         advanced = values_more active owner c.args.var c.in-Some.placed.value (placed_value c.next_placed-next.result) f now after w.advanced
             (checks_walked active owner (pair_of c.args.var c.in-Some.placed.value ∷ []) now after c.is_supported.new.checks (told.walked active revising)) (told.revising active revising)
@@ -189,7 +189,7 @@ loop-next-preserved g c = (
             (walked_quiet active owner (pair_of c.args.var c.in-Some.placed.value ∷ []) (record now { checks = c.is_supported.new.checks }) after (told.walked active revising))) is_next;
       },
   c.next_placed-next.ensures.placed,
-  knows_next c.take_out_on.new.filtering.store (active_of g.F.Filter.meaning c.args.constraint.now).con c.args.var c.in-Some.placed.value c.next_placed-next.result c.take_out_on.new.room c.next_placed-next.ensures.next c.in_ok-take_out_on.ensures.knows,
+  knows_next c.take_out.new.filtering.store (active_of g.F.Filter.meaning c.args.constraint.now).con c.args.var c.in-Some.placed.value c.next_placed-next.result c.take_out.new.room c.next_placed-next.ensures.next c.in_ok-take_out.ensures.knows,
 )
 
 pub returns-clause-advanced : goal.returns-clause-advanced

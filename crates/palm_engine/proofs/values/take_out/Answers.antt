@@ -6,7 +6,7 @@ use Rattle.palm_engine.specs.Revising.{IsRevising}
 use Rattle.palm_engine.proofs.Revised.{owner_in_form, owner_filled, reasons_logged, reasons_told, stated}
 use Rattle.palm_engine.proofs.Progress.{taken_walked, taken_revising, on_ok, on_either}
 use Rattle.palm_engine.proofs.Knowing.{knows_still}
-use Rattle.palm_engine.proofs.values.take_out_on.Goals as goal
+use Rattle.palm_engine.proofs.values.take_out.Goals as goal
 
 pub tells_spans-requires-clause-formed : goal.tells_spans-requires-clause-formed
 tells_spans-requires-clause-formed g c = let r = c.requires.revising in owner_in_form c.args.filtering.now r.0 (active_of g.F.Filter.meaning c.args.constraint.now) r.1
