@@ -2,7 +2,7 @@ pub mod CidLists
 pub mod cited
 pub mod Flagged
 pub mod Opening
-pub mod Reversed
+pub mod Joined
 pub mod Rows
 pub mod Woken
 pub mod Heeding

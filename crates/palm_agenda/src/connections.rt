@@ -1,5 +1,5 @@
 //! The connected constraints.
-ghost use Rattle.std.specs.Prelude.{◌≡◌, ◌-◌, ◌^◌, ◌<◌, ◌≤◌, [], length, not, reverse, Contains, OnErr, OnOk, slice_index_or, slice_set};
+ghost use Rattle.std.specs.Prelude.{◌≡◌, ◌-◌, ◌^◌, ◌<◌, ◌≤◌, true, false, [], length, Contains, OnErr, OnOk, slice_index_or, slice_set};
 ghost use Rattle.std.specs.List.{insert, remove};
 ghost use Rattle.palm_base.specs.Tells.{Tells};
 ghost use Rattle.palm_base.specs.Order.{Rises, StandsAt, cid_before, IsPartedAt};
@@ -10,32 +10,37 @@ ghost use Rattle.palm_agenda.specs.Places.{mark_places};
 
 use crate::connection::{Connection, Places};
 use crate::mark::Change;
-use palm_base::{Cid, HasCid, NoMemory, Var};
+use palm_base::{Cid, HasCid, NoMemory, Var, place_of};
 use std::alloc::Global;
 use std::marker::Model;
 
-/// Connected constraints by rising id. They are kept in falling order, so that a decision or a negation, whose ids come
-/// first, is put in and taken out near the end.
+/// Connected constraints by rising id. Decisions and negations, whose ids come first, stand apart from users: so that a decision
+/// moves no users, and a newest user stands at an end.
 #[derive(Debug, Drop)]
 pub(crate) struct Connections {
-    falling: Vec<Connection>,
+    /// Those in front: decisions and negations.
+    front: Vec<Connection>,
+    users: Vec<Connection>,
 }
 
 impl Model for Connections {
-    ghost use Rattle.std.specs.Prelude.{List, reverse};
+    ghost use Rattle.std.specs.Prelude.{List, ◌++◌};
     ghost use Rattle.palm_agenda.specs.Agenda.{Connected};
 
     ghost Value = { List Connected };
 
-    ghost view = { λ c. reverse c.falling.items };
+    ghost view = { λ c. c.front.items ++ c.users.items };
 }
 
-/// How many of the constraints have ids that do not come before this one.
-fn place_behind(falling: &[Connection], cid: &Cid) -> usize
-    requires { Rises (connected_cids (reverse falling.now)) }
-    ensures { IsPartedAt (λ d. not (cid_before d.cid cid.now)) falling.now result }
+/// Whether a constraint with this id, which belongs at a place, goes to those in front, so many of them.
+fn goes_in_front(cid: &Cid, place: usize, front: usize) -> bool
+    ensures front { result ≡ true → place ≤ front }
+    ensures behind { result ≡ false → front ≤ place }
 {
-    falling.partition_point(|connection| !connection.cid().is_before(cid))
+    match cid {
+        Cid::User(_) => place < front,
+        Cid::Decide(_) | Cid::Not(_) => place <= front,
+    }
 }
 
 impl Connections {
@@ -44,7 +49,8 @@ impl Connections {
         ensures { result ≡ [] }
     {
         Connections {
-            falling: Vec::new(alloc),
+            front: Vec::new(alloc),
+            users: Vec::new(alloc),
         }
     }
 
@@ -54,7 +60,7 @@ impl Connections {
         ensures many { result ≡ length self.now }
         ensures few { result < 2 ^ 64 - 1 }
     {
-        self.falling.len()
+        self.front.len() + self.users.len()
     }
 
     /// The constraint at the place.
@@ -63,7 +69,12 @@ impl Connections {
         requires { place < length self.now }
         ensures { result.now ≡ slice_index_or self.now place result.now }
     {
-        &self.falling[self.falling.len() - 1 - place]
+        let front = self.front.len();
+        if place < front {
+            &self.front[place]
+        } else {
+            &self.users[place - front]
+        }
     }
 
     /// Whether the constraint at the place has the id.
@@ -71,7 +82,7 @@ impl Connections {
     pub(crate) fn stands_at(&self, place: usize, cid: &Cid) -> bool
         ensures { Tells result (StandsAt (λ d. d.cid) self.now place cid.now) }
     {
-        place < self.falling.len() && self.at(place).cid().is_same(cid)
+        place < self.len() && self.at(place).cid().is_same(cid)
     }
 
     /// How many of the constraints have ids that come before this one.
@@ -79,7 +90,11 @@ impl Connections {
         requires { Rises (connected_cids self.now) }
         ensures { IsPartedAt (λ d. cid_before d.cid cid.now) self.now result }
     {
-        self.falling.len() - place_behind(&self.falling, cid)
+        let place = place_of(&self.front, cid);
+        if place < self.front.len() {
+            return place;
+        }
+        place + place_of(&self.users, cid)
     }
 
     /// Puts a constraint in at the place. Without memory nothing changes.
@@ -88,8 +103,12 @@ impl Connections {
         ensures ok { OnOk result (self.new ≡ insert self.old place connection) }
         ensures err { OnErr result (self.new ≡ self.old) }
     {
-        let behind = self.falling.len() - place;
-        self.falling.insert(behind, connection)?;
+        let front = self.front.len();
+        if goes_in_front(&connection.cid(), place, front) {
+            self.front.insert(place, connection)?;
+        } else {
+            self.users.insert(place - front, connection)?;
+        }
         Ok(())
     }
 
@@ -99,8 +118,12 @@ impl Connections {
         ensures removed { result ≡ slice_index_or self.old place result }
         ensures left { self.new ≡ remove self.old place }
     {
-        let behind = self.falling.len() - 1 - place;
-        self.falling.remove(behind)
+        let front = self.front.len();
+        if place < front {
+            self.front.remove(place)
+        } else {
+            self.users.remove(place - front)
+        }
     }
 
     /// Marks these places of the constraint at the place, as seen from the variable, over which it is. The change is that
@@ -112,9 +135,14 @@ impl Connections {
         requires changes { (d : Connected) → d ≡ slice_index_or self.old place d → ChangesAt change.now places.now (heed_of var.now d.scope d.heeds) }
         ensures { (d : Connected) → d ≡ slice_index_or self.old place d → self.new ≡ slice_set self.old place (mark_places places.now var.now d) }
     {
-        let behind = self.falling.len() - 1 - place;
-        let connection = &mut self.falling[behind];
-        connection.mark(places, var, change);
+        let front = self.front.len();
+        if place < front {
+            let connection = &mut self.front[place];
+            connection.mark(places, var, change);
+        } else {
+            let connection = &mut self.users[place - front];
+            connection.mark(places, var, change);
+        }
     }
 
     /// Takes a mark of the constraint at the place away.
@@ -124,8 +152,13 @@ impl Connections {
         requires marked { (d : Connected) → d ≡ slice_index_or self.old place d → marked < length d.scope }
         ensures { (d : Connected) → d ≡ slice_index_or self.old place d → self.new ≡ slice_set self.old place (unmarked marked d) }
     {
-        let behind = self.falling.len() - 1 - place;
-        let connection = &mut self.falling[behind];
-        connection.unmark(marked);
+        let front = self.front.len();
+        if place < front {
+            let connection = &mut self.front[place];
+            connection.unmark(marked);
+        } else {
+            let connection = &mut self.users[place - front];
+            connection.unmark(marked);
+        }
     }
 }

@@ -2,8 +2,8 @@
 ghost use Rattle.std.specs.Prelude.{◌≡◌};
 
 use crate::calls::pair;
-use crate::log::are_removed;
-use palm_base::{Cid, NoMemory, Pair, Value, Var};
+use crate::spans::remove_for;
+use palm_base::{Cid, NoMemory, Value, Var};
 use palm_explain::{CidSet, ExplainStore};
 use std::alloc::Global;
 use std::process::Abort;
@@ -56,12 +56,17 @@ fn ids_are_added(rt: HostRuntime) -> Result<(), Fail> {
 
 /// Asserts what a set has to which lists were added, and another set.
 fn assert_all_added(rt: &impl Abort, alloc: Global) -> Result<(), NoMemory> {
-    let [first, second, third, fourth, fifth, sixth] = six();
     let mut ids = CidSet::new(alloc);
-    ids.add_each(&[fifth, third, fifth])?;
+    ids.add_each(&[Cid::User(1), Cid::Not(pair(0, 9)), Cid::User(1)])?;
     assert_ids(rt, alloc, &ids, &[Cid::Not(pair(0, 9)), Cid::User(1)])?;
     let mut others = CidSet::new(alloc);
-    others.add_each(&[sixth, fourth, second, first, Cid::User(1)])?;
+    others.add_each(&[
+        Cid::User(65535),
+        Cid::Not(pair(1, 3)),
+        Cid::Decide(Var(64)),
+        Cid::Decide(Var(0)),
+        Cid::User(1),
+    ])?;
     ids.add_all(&others)?;
     assert_ids(rt, alloc, &ids, &six())
 }
@@ -72,25 +77,17 @@ fn ids_of_lists_and_of_sets_are_added(rt: HostRuntime) -> Result<(), Fail> {
     Ok(())
 }
 
-/// Enters the removal, where it is none yet, and its reasons are.
-fn enter(log: &mut ExplainStore, pair: &Pair, by: &Cid, reasons: &[Pair]) -> Result<(), NoMemory> {
-    if !are_removed(log, reasons) || log.place_of(*pair).is_some() {
-        return Ok(());
-    }
-    log.enter(*pair, *by, reasons)
-}
-
 /// Asserts what a set of one user has when the explanations of y are added: y lost 2 for the loss of x, z lost 2, and y has 1.
 fn assert_explained(rt: &impl Abort, alloc: Global) -> Result<(), NoMemory> {
     let mut log = ExplainStore::new(alloc);
-    enter(&mut log, &pair(0, 2), &Cid::User(1), &[])?;
-    enter(&mut log, &pair(1, 2), &Cid::Decide(Var(64)), &[pair(0, 2)])?;
-    enter(&mut log, &pair(2, 2), &Cid::User(3), &[])?;
+    remove_for(&mut log, &pair(0, 2), 1, 3, 0, 9)?;
+    remove_for(&mut log, &pair(1, 2), 64, 0, 1, 9)?;
+    remove_for(&mut log, &pair(2, 2), 3, 3, 0, 9)?;
     assert_eq!(rt; log.removals(), 3);
     let mut ids = CidSet::new(alloc);
     ids.add(&Cid::User(9))?;
     log.add_explanations(Var(1), &[Value(1), Value(2)], &mut ids)?;
-    let expected = [Cid::Decide(Var(64)), Cid::User(1), Cid::User(9)];
+    let expected = [Cid::User(1), Cid::User(9), Cid::User(64)];
     assert_ids(rt, alloc, &ids, &expected)
 }
 

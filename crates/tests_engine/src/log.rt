@@ -25,7 +25,7 @@ fn add_three(store: &mut DomainStore) -> Result<(), NoMemory>
 }
 
 /// Whether all of the pairs are removed.
-pub fn are_removed(log: &ExplainStore, pairs: &[Pair]) -> bool
+fn are_removed(log: &ExplainStore, pairs: &[Pair]) -> bool
     ensures { result ≡ true → All (Contains (log_pairs log.now.log)) pairs.now }
 {
     for pair in pairs {

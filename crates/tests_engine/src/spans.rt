@@ -23,7 +23,7 @@ fn has(log: &ExplainStore, pair: Pair) -> bool
 
 /// Enters the pair by the user's constraint of this number, where it is not removed. Its reasons are the removed ones of the
 /// variable's values from `low` to `high`.
-fn remove_for(
+pub fn remove_for(
     log: &mut ExplainStore,
     gone: &Pair,
     by: u32,

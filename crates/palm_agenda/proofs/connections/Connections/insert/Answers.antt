@@ -1,7 +1,12 @@
-use Rattle.std.proofs.Common.{arith, ◌∙◌, ap, reverse}
-use Rattle.palm_agenda.proofs.Reversed.{turned_insert}
+use Rattle.std.proofs.Common.{arith, ◌∙◌, ◌++◌, sym, ap}
+use Rattle.std.specs.List.{insert}
+use Rattle.std.proofs.lemmas.List.Edits.{insert-append_right}
 use Rattle.palm_agenda.proofs.connections.Connections.insert.Goals as goal
 
-pub returns-clause-ok : goal.returns-clause-ok
-returns-clause-ok c =
-    ap reverse c.in_ok-insert.ensures.items ∙ turned_insert c.self.inside.falling.items c.args.self.now c.self.view_is c.args.place c.requires c.len.result (omega (arith, c.len.ensures, c.self.inside.falling.ok.0)) c.args.connection
+pub returns-in_ok-insert-2-clause-ok : goal.returns-in_ok-insert-2-clause-ok
+returns-in_ok-insert-2-clause-ok c =
+    let front = c.self.inside.front.items in
+    let users = c.self.inside.users.items in
+    ap (λ xs. front ++ xs) c.in_ok-insert-2.ensures.items
+    ∙ sym (insert-append_right front users c.len-front.result c.args.place c.args.connection (omega (arith, c.len-front.ensures, c.self.inside.front.ok.0)) (c.goes_in_front.ensures.behind c.if-goes_in_front.false))
+    ∙ ap (λ l. insert l c.args.place c.args.connection) c.self.view_is

@@ -1,12 +1,32 @@
-use Rattle.std.proofs.Common.{arith, ◌∙◌, ap, reverse, subst, sym}
-use Rattle.palm_base.specs.Order.{Rises, cid_before}
+use Rattle.std.proofs.Common.{◌+◌, arith, subst, sym}
+use Rattle.palm_base.specs.Order.{IsPartedAt, Rises}
 use Rattle.palm_agenda.specs.Agenda.{connected_cids}
-use Rattle.palm_agenda.proofs.Reversed.{turned_parted}
+use Rattle.palm_agenda.proofs.Joined.{before, parted_behind, parted_front, rises_behind, rises_front}
 use Rattle.palm_agenda.proofs.connections.Connections.place_of.Goals as goal
 
-pub place_behind-requires : goal.place_behind-requires
-place_behind-requires c = subst (λ ds. Rises (connected_cids ds)) (sym (ap reverse c.deref.ensures.value ∙ c.self.view_is)) c.requires
+pub place_of-place-requires : goal.place_of-place-requires
+place_of-place-requires c =
+    subst (λ ds. Rises (connected_cids ds)) (sym c.deref.ensures.value) (rises_front c.self.inside.front.items c.self.inside.users.items (subst (λ ds. Rises (connected_cids ds)) (sym c.self.view_is) c.requires))
+
+pub place_of-requires : goal.place_of-requires
+place_of-requires c =
+    subst (λ ds. Rises (connected_cids ds)) (sym c.deref-2.ensures.value) (rises_behind c.self.inside.front.items c.self.inside.users.items (subst (λ ds. Rises (connected_cids ds)) (sym c.self.view_is) c.requires))
+
+pub returns-then-place-len : goal.returns-then-place-len
+returns-then-place-len c =
+    let front = c.self.inside.front.items in
+    let users = c.self.inside.users.items in
+    subst (λ ds. IsPartedAt (before c.args.cid.now) ds c.place_of-place.result) c.self.view_is
+    (parted_front front users (subst (λ ds. Rises (connected_cids ds)) (sym c.self.view_is) c.requires) c.args.cid.now c.place_of-place.result
+    (subst (λ ds. IsPartedAt (before c.args.cid.now) ds c.place_of-place.result) c.deref.ensures.value c.place_of-place.ensures)
+    (omega (arith, c.if-place-len.true, c.len.ensures, c.self.inside.front.ok.0)))
 
 pub returns : goal.returns
 returns c =
-    turned_parted c.self.inside.falling.items c.args.self.now c.self.view_is 0 (λ d. cid_before d.cid c.args.cid.now) c.deref.result.now c.place_behind.result c.len.result c.deref.ensures.value (omega (arith, c.len.ensures, c.self.inside.falling.ok.0)) c.place_behind.ensures
+    let front = c.self.inside.front.items in
+    let users = c.self.inside.users.items in
+    subst (λ ds. IsPartedAt (before c.args.cid.now) ds (c.place_of-place.result + c.place_of.result)) c.self.view_is
+    (parted_behind front users (subst (λ ds. Rises (connected_cids ds)) (sym c.self.view_is) c.requires) c.args.cid.now c.place_of-place.result
+    (subst (λ ds. IsPartedAt (before c.args.cid.now) ds c.place_of-place.result) c.deref.ensures.value c.place_of-place.ensures) c.place_of.result
+    (omega (arith, c.if-place-len.false, c.len.ensures, c.self.inside.front.ok.0))
+    (subst (λ ds. IsPartedAt (before c.args.cid.now) ds c.place_of.result) c.deref-2.ensures.value c.place_of.ensures))

@@ -1,11 +1,12 @@
-use Rattle.std.proofs.Common.{arith, ◌∙◌, ap, reverse}
-use Rattle.palm_agenda.proofs.Reversed.{turned_get, turned_remove}
+use Rattle.std.proofs.Common.{arith, ◌∙◌, ◌++◌, sym, ap}
+use Rattle.std.specs.List.{remove}
+use Rattle.std.proofs.lemmas.List.Edits.{remove-append_right}
 use Rattle.palm_agenda.proofs.connections.Connections.remove.Goals as goal
 
-pub returns-clause-removed : goal.returns-clause-removed
-returns-clause-removed c =
-    turned_get c.self.inside.falling.items c.args.self.now c.self.view_is c.args.place c.requires c.len.result (omega (arith, c.len.ensures, c.self.inside.falling.ok.0)) c.remove.result c.remove.ensures.value
-
-pub returns-clause-left : goal.returns-clause-left
-returns-clause-left c =
-    ap reverse c.remove.ensures.items ∙ turned_remove c.self.inside.falling.items c.args.self.now c.self.view_is c.args.place c.requires c.len.result (omega (arith, c.len.ensures, c.self.inside.falling.ok.0))
+pub returns-else-place-front-clause-left : goal.returns-else-place-front-clause-left
+returns-else-place-front-clause-left c =
+    let front = c.self.inside.front.items in
+    let users = c.self.inside.users.items in
+    ap (λ xs. front ++ xs) c.remove-else-place-front.ensures.items
+    ∙ sym (remove-append_right front users c.len-front.result c.args.place (omega (arith, c.len-front.ensures, c.self.inside.front.ok.0)) (omega (arith, c.if-place-front.false)))
+    ∙ ap (λ l. remove l c.args.place) c.self.view_is
