@@ -10,7 +10,7 @@ ghost use Rattle.palm_agenda.specs.Places.{mark_places};
 
 use crate::connection::{Connection, Places};
 use crate::mark::Change;
-use palm_base::{Cid, HasCid, NoMemory, Var, place_of};
+use palm_base::{Cid, HasCid, NoMemory, Var};
 use std::alloc::Global;
 use std::marker::Model;
 
@@ -41,6 +41,15 @@ fn goes_in_front(cid: &Cid, place: usize, front: usize) -> bool
         Cid::User(_) => place < front,
         Cid::Decide(_) | Cid::Not(_) => place <= front,
     }
+}
+
+/// How many of the constraints of a part have ids that come before this one.
+#[inline(always)]
+fn place_in(part: &[Connection], cid: &Cid) -> usize
+    requires { Rises (connected_cids part.now) }
+    ensures { IsPartedAt (λ d. cid_before d.cid cid.now) part.now result }
+{
+    part.partition_point(|connection| connection.cid().is_before(cid))
 }
 
 impl Connections {
@@ -90,11 +99,11 @@ impl Connections {
         requires { Rises (connected_cids self.now) }
         ensures { IsPartedAt (λ d. cid_before d.cid cid.now) self.now result }
     {
-        let place = place_of(&self.front, cid);
+        let place = place_in(&self.front, cid);
         if place < self.front.len() {
             return place;
         }
-        place + place_of(&self.users, cid)
+        place + place_in(&self.users, cid)
     }
 
     /// Puts a constraint in at the place. Without memory nothing changes.
