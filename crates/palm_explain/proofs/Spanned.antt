@@ -40,7 +40,7 @@ module _ (entries : List Entry) (rows : List Row) (next : ℕ) (are : AreEntered
       let w = (is.each v).0 m in
       let k = logged (record { var = s.var; value = v }) w.2 in value_span rows next s v (record { from = w.0; to = w.1; number = k.0; stands = k.1; before = k.2 }))
 
-  own_spanned : (spans : List Span) → AreSpanned known spans (written rows next spans)
+  pub own_spanned : (spans : List Span) → AreSpanned known spans (written rows next spans)
   own_spanned [] = spans_end
   own_spanned (s ∷ spans) = spans_on s spans (span_values rows next s) (written rows next spans) (own_span s) (own_spanned spans)
 

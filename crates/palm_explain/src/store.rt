@@ -90,6 +90,8 @@ impl ExplainStore {
     /// nothing changes.
     pub fn enter_spans(&mut self, pair: Pair, by: Cid, spans: &[Span]) -> Result<(), NoMemory>
         requires fresh { Contains (log_pairs self.old.log) pair → ⊥ }
+        ensures spanned { OnOk result ((reasons : List PairTerm)
+            × AreSpanned (log_pairs self.old.log) spans.now reasons) }
         ensures ok { (reasons : List PairTerm) → AreSpanned (log_pairs self.old.log) spans.now reasons
             → OnOk result (self.new ≡ record self.old { log = self.old.log ++ record { pair = pair; by = by; reasons = reasons } ∷ [] }) }
         ensures err { OnErr result (self.new ≡ self.old) }

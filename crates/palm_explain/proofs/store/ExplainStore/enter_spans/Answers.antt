@@ -3,10 +3,10 @@ use Rattle.palm_explain.specs.declared.entry.Entry.{Entry}
 use Rattle.palm_base.proofs.cited.Members.{member_same}
 use Rattle.palm_model.specs.Log.{Removal, log_pairs}
 use Rattle.palm_explain.specs.Entries.{IsWhole, log_of, written}
-use Rattle.palm_explain.specs.Explanations.{Explanations}
+use Rattle.palm_explain.specs.Explanations.{AreSpanned, Explanations}
 use Rattle.palm_explain.proofs.Reasons.{entry_pair}
 use Rattle.palm_explain.proofs.RowNumbers.{keeps_all}
-use Rattle.palm_explain.proofs.Spanned.{spanned_spans}
+use Rattle.palm_explain.proofs.Spanned.{own_spanned, spanned_spans}
 use Rattle.palm_explain.proofs.Stores.{entered_pushed, log_like, log_pushed, on_err, whole_like, whole_pushed}
 use Rattle.palm_explain.proofs.store.ExplainStore.enter_spans.Goals as goal
 
@@ -60,6 +60,14 @@ invariant_of-self-2 c =
     (whole_pushed entries rows c.put_number.new.rows.items next (vec_capacity c.self.inside.restored) (vec_capacity c.reserve.new.self) c.self.inside.firsts c.note.new.self e c.self.invariant
     (entered_pushed entries rows c.put_number.new.rows.items next e c.self.invariant.entered c.put_number.ensures.formed c.if-number.false refl fresh c.in_ok-put_number.ensures.there c.put_number.ensures.others fits) refl refl
     (omega (arith, c.in_ok-reserve.ensures.ok, c.len.ensures)) c.note.ensures.formed c.note.ensures.stays c.in_ok-note.ensures.noted)
+
+pub returns-clause-spanned : goal.returns-clause-spanned
+returns-clause-spanned c =
+    let inside = c.self.inside in (
+      written inside.rows.items inside.next c.args.spans.now,
+      subst (λ (v : Explanations). AreSpanned (log_pairs v.log) c.args.spans.now (written inside.rows.items inside.next c.args.spans.now)) c.self.view_is
+          (own_spanned inside.log.items inside.rows.items inside.next c.self.invariant.entered c.args.spans.now),
+    )
 
 pub returns-clause-ok : goal.returns-clause-ok
 returns-clause-ok c reasons spanned =
