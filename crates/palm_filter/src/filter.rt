@@ -14,10 +14,11 @@ use crate::rule::{Intervals, Known};
 use crate::shape::Shape;
 use palm_base::{NoMemory, Pair, Steps, VarList};
 use palm_domain::DomainStore;
+use smallvec::SmallVec;
 use std::sync::ledger::Ledger;
 
-/// The pairs of a reason. One list is filled again and again.
-pub type Reasons = Vec<Pair>;
+/// The pairs of a reason. Up to eight stand in the list itself. One list is filled again and again, and keeps its room.
+pub type Reasons = SmallVec<Pair, 8>;
 
 /// What filters one constraint, its meaning.
 pub trait Filter: Drop {

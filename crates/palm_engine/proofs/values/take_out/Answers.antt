@@ -79,19 +79,19 @@ remove-requires-clause-removed g c = let r = c.requires.revising in let kept = r
 pub remove-requires-clause-earlier : goal.remove-requires-clause-earlier
 remove-requires-clause-earlier g c =
     let r = c.requires.revising in
-    let e = c.as_slice-2.ensures.value ∙ c.in_ok-reason.ensures.ok in
+    let e = c.as_slice-2.ensures ∙ c.in_ok-reason.ensures.ok in
     λ p m. reasons_logged c.args.filtering.now r.0 (active_of g.F.Filter.meaning c.args.constraint.now) c.args.pair r.1 c.requires.filled c.requires.present
     c.requires.lacking p (subst (λ (l : List Pair). Contains l p) e m)
 
 pub returns-clause-walked : goal.returns-clause-walked
 returns-clause-walked g c = λ active r.
-    let e = c.as_slice-2.ensures.value ∙ c.in_ok-reason.ensures.ok in
+    let e = c.as_slice-2.ensures ∙ c.in_ok-reason.ensures.ok in
     on_ok c.remove.result (λ takes. taken_walked active (active_of g.F.Filter.meaning c.args.constraint.now) c.args.pair c.args.filtering.now c.remove.new.self c.cid-2.result c.as_slice-2.result.now r
     c.requires.filled c.requires.present c.requires.lacking c.requires.over c.cid-2.ensures e takes) c.remove.ensures.ok
 
 pub returns-clause-revising : goal.returns-clause-revising
 returns-clause-revising g c = λ active r.
-    let e = c.as_slice-2.ensures.value ∙ c.in_ok-reason.ensures.ok in
+    let e = c.as_slice-2.ensures ∙ c.in_ok-reason.ensures.ok in
     let owner = active_of g.F.Filter.meaning c.args.constraint.now in
     on_either c.remove.result
     (λ takes. taken_revising active owner c.args.pair c.args.filtering.now c.remove.new.self c.cid-2.result c.as_slice-2.result.now r

@@ -1,4 +1,4 @@
-use Rattle.std.proofs.Common.{◌++◌, List, ℤ, take, filter, vec_len, vec_capacity, refl, sym, ap, ◌∙◌, arith}
+use Rattle.std.proofs.Common.{◌≡◌, ◌++◌, ◌+◌, List, ℤ, length, take, filter, refl, sym, ap, ◌∙◌, arith, length-append}
 use Rattle.std.proofs.lemmas.List.{take_all}
 use Rattle.palm_base.specs.declared.terms.Pair.{Pair}
 use Rattle.palm_model.specs.Removed.{pairs_of}
@@ -13,8 +13,8 @@ pub loop-value-preserved : goal.loop-value-preserved
 loop-value-preserved g c = elim c.if-passes.branch [
   | then-passes w ↦
       let grown = ap (λ o. o.items) w.out-is ∙ w.push_reserved.ensures.items in
-      let long = ap (λ o. vec_len o) w.out-is ∙ w.push_reserved.ensures.len in
-      let same = ap (λ o. vec_capacity o) w.out-is ∙ w.push_reserved.ensures.capacity in
+      let long : length c.if-passes.out.items ≡ length c.loop-value.out.items + 1 = ap length grown ∙ length-append c.loop-value.out.items _ in
+      let same = ap (λ o. o.capacity) w.out-is ∙ w.push_reserved.ensures.capacity in
       record {
         written = λ test tests.
             let told = tests c.value-item.result c.passes.result (record { shown = _; shows = refl; says = record { met = c.passes.ensures } }) in
@@ -23,8 +23,8 @@ loop-value-preserved g c = elim c.if-passes.branch [
         room = omega (arith, long, same, c.loop-value.invariant.room, c.loop-value-test.true);
       }
   | else-passes w ↦
-      let long = ap (λ o. vec_len o) w.out-is in
-      let same = ap (λ o. vec_capacity o) w.out-is in
+      let long = ap (λ o. length o.items) w.out-is in
+      let same = ap (λ o. o.capacity) w.out-is in
       record {
         written = λ test tests.
             let told = tests c.value-item.result c.passes.result (record { shown = _; shows = refl; says = record { met = c.passes.ensures } }) in

@@ -26,7 +26,7 @@ returns-in_ok-push c =
     let initial = initial_of c.args.store.now in
     let up = subst (λ (p : Pair). Ascends (values_of initial p.var)) c.bound_pair.ensures c.declared.ensures.ascend in
     let there = subst (λ (p : Pair). Contains (values_of initial p.var) p.value) c.bound_pair.ensures (tells_true _ c.declared.result c.declared.ensures.tells c.if-declared.true) in
-    c.in_ok-push.ensures.items
+    c.in_ok-push.ensures.ok
     ∙ ap (λ p. c.args.out.now.items ++ p ∷ []) c.bound_pair-then-declared.ensures
     ∙ ap (λ ws. c.args.out.now.items ++ pairs_of d.var ws) (sym (bound_alone (values_of initial d.var) d c.requires.equal up there))
 

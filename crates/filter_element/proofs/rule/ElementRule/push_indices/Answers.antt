@@ -26,7 +26,7 @@ loop-place-preserved c =
           index_pushed initial e.index places c.loop-place.place-index c.loop-place-test.true c.index_at.result c.index_at.ensures.var c.index_at.ensures.value
           c.args.out.now.items c.loop-place.out.items c.if-declared.out.items c.declared.result c.declared.ensures.tells c.loop-place.invariant
           w.index_at-then-declared.result w.index_at-then-declared.ensures.var w.index_at-then-declared.ensures.value w.if-declared.true
-          (ap (λ o. o.items) w.out-is ∙ w.in_ok-push.ensures.items)
+          (ap (λ o. o.items) w.out-is ∙ w.in_ok-push.ensures.ok)
       | else-declared w ↦
           index_left_out initial e.index places c.loop-place.place-index c.loop-place-test.true c.index_at.result c.index_at.ensures.var c.index_at.ensures.value
           c.args.out.now.items c.loop-place.out.items c.if-declared.out.items c.declared.result c.declared.ensures.tells c.loop-place.invariant

@@ -17,7 +17,7 @@ pub returns-in_ok-push : goal.returns-in_ok-push
 returns-in_ok-push c =
     let e = c.args.self.now in
     let initial = initial_of c.args.store.now in
-    c.in_ok-push.ensures.items
+    c.in_ok-push.ensures.ok
     ∙ ap (λ ws. c.args.out.now.items ++ pairs_of e.outcome ws)
     (sym (declared_outcomes initial e.outcome e.entries c.args.index.now c.declared.ensures.ascend c.in-Some.entry (sym c.entry.ensures ∙ c.in-Some.is) (tells_true _ c.declared.result c.declared.ensures.tells c.if-declared.true)))
 
