@@ -470,8 +470,28 @@ impl Agenda {
     pub fn take_clear(&mut self, most: u64) -> u64
         ensures { TakesClear self.old self.new most result }
     {
-        let _most = most;
-        0
+        let mut taken = 0;
+        while taken < most && self.take_first_clear() {
+            taken += 1;
+        }
+        taken
+    }
+
+    /// Takes the first pending constraint, where one is pending and has no mark.
+    #[inline(always)]
+    fn take_first_clear(&mut self) -> bool
+        ensures taken { result ≡ true → TakesClear self.old self.new 1 1 }
+        ensures none { result ≡ false → self.new ≡ self.old }
+    {
+        match self.pending.first() {
+            Some(place) if are_clear(self.connections.at(place).marks()) => {
+                self.pending.lower(place);
+                self.is_shown = false;
+                self.woken = None;
+                true
+            }
+            _ => false,
+        }
     }
 
     /// The first pending constraint, which is pending no longer.
