@@ -11,6 +11,7 @@ invariant_of-self c = (
       (c.lower.ensures ∙ ap (λ (f : FlagRow). slice_set f.flags c.in-Some.place false) c.first.ensures.same) (omega arith),
   tt,
   tt,
+  c.self.invariant.3,
 )
 
 pub returns-in-Some-clause-taken : goal.returns-in-Some-clause-taken
