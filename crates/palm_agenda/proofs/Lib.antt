@@ -1,5 +1,7 @@
 pub mod CidLists
 pub mod cited
+pub mod Alone
+pub mod Clearing
 pub mod Flagged
 pub mod Opening
 pub mod Joined

@@ -1,11 +1,12 @@
 -- What an agenda holds: the connected constraints with their marks, and the ids of those that wait to be revised.
-use Rattle.std.specs.Prelude.{◌≡◌, ℕ, ℤ, ◌<◌, if◌then◌else◌, Bool, not, Some, List, [], ◌∷◌, ◌++◌, length, map, filter, All, Contains, nat_eq, nat_lt, slice_get, slice_set, replicate}
+use Rattle.std.specs.Prelude.{◌≡◌, ℕ, ℤ, ◌<◌, ◌≤◌, ◌⊎◌, if◌then◌else◌, Bool, not, Some, List, [], ◌∷◌, ◌++◌, length, map, filter, All, Contains, nat_eq, nat_lt, slice_get, slice_set, replicate}
 use Rattle.std.specs.List.{list_any}
 use Rattle.palm_base.specs.declared.terms.Cid.{Cid}
 use Rattle.palm_base.specs.Order.{Rises, StandsAt, cid_before, same_cid}
 use Rattle.palm_model.specs.Log.{is_named}
 use Rattle.palm_model.specs.State.{without_cid}
 use Rattle.palm_filter.specs.declared.heed.Heed.{Heed}
+use Rattle.palm_filter.specs.declared.heed.Heed.TheVariants.{Alone}
 use Rattle.palm_agenda.specs.declared.loss.Loss.{Loss}
 use Rattle.palm_agenda.specs.declared.mark.Mark.{Mark}
 use Rattle.palm_agenda.specs.declared.mark.Mark.TheVariants.{Clear, Whole}
@@ -57,6 +58,11 @@ pub record HasPlace (connected : List Connected) (cid : Cid) (place : ℕ) : Typ
 -- there is a mark for each place
 abbrev pub HasMarks : Connected → Type 0
 HasMarks d = length d.marks ≡ length d.scope
+
+-- no loss that leaves several values marks the constraint: it heeds losses of a variable where one value is left alone, or is over no
+-- other one
+abbrev pub HeedsAlone : Connected → Type 0
+HeedsAlone d = (x : ℕ) → Contains d.scope x → (heed_of x d.scope d.heeds ≡ Alone) ⊎ ((y : ℕ) → Contains d.scope y → y ≡ x)
 
 -- what holds of every agenda
 pub record IsFormed (w : Waiting) : Type 0 where
@@ -125,3 +131,12 @@ index_within index count = if nat_lt index count then index else 0
 pub record Takes (before after : List Cid) (answer : ℕ) (cid : Cid) : Type 0 where
   pub chosen : slice_get before (index_within answer (length before)) ≡ Some cid
   pub pending : after ≡ without_cid cid before
+
+-- the first pending constraints, at most so many, are pending no longer; none of them has a mark
+pub record TakesClear (before after : Waiting) (most count : ℕ) : Type 0 where
+  pub taken : List Cid
+  pub order : before.pending ≡ taken ++ after.pending
+  pub many : length taken ≡ count
+  pub within : count ≤ most
+  pub connected : after.connected ≡ before.connected
+  pub clear : (d : Connected) → Contains before.connected d → Contains taken d.cid → All (λ mark. mark ≡ Clear) d.marks

@@ -1,10 +1,10 @@
 -- What an agenda keeps beside what it shows.
-use Rattle.std.specs.Prelude.{◌≡◌, ℕ, ◌≤◌, ◌↔◌, ◌⊎◌, ⊤, Bool, true, false, Option, None, Some, List, map, length, Contains}
+use Rattle.std.specs.Prelude.{◌≡◌, ℕ, ◌≤◌, ◌↔◌, ◌⊎◌, ⊤, Bool, true, false, Option, None, Some, List, map, length, Contains, slice_index_or}
 use Rattle.palm_base.specs.declared.terms.Cid.{Cid}
 use Rattle.palm_agenda.specs.declared.loss.Loss.{Loss}
 use Rattle.palm_agenda.specs.declared.agenda.Woken.{Woken}
 use Rattle.palm_agenda.specs.Open.{is_open}
-use Rattle.palm_agenda.specs.Agenda.{Connected, IsFormed, IsOver, Waiting, connected_cids, mark_others}
+use Rattle.palm_agenda.specs.Agenda.{Connected, HeedsAlone, IsFormed, IsOver, Waiting, connected_cids, mark_others}
 use Rattle.palm_agenda.specs.Flags.{flagged}
 use Rattle.palm_agenda.specs.Cids.{Roomy, cids_at}
 
@@ -27,6 +27,11 @@ abbrev pub IsWoken : Option Woken → List Connected → List Cid → Type 0
 IsWoken None connected pending = ⊤
 IsWoken (Some w) connected pending =
     ((loss : Loss) → is_open w.still loss ≡ false → map (mark_others w.var loss) connected ≡ connected) × ((c : Cid) → IsOver connected w.var c → Contains pending c)
+
+-- a constraint over a variable that is not noted as heedful heeds where one value is left alone
+abbrev pub IsHeedful : List Bool → List Connected → Type 0
+IsHeedful heedful connected =
+    (x : ℕ) (d : Connected) → slice_index_or heedful x false ≡ false → Contains connected d → Contains d.scope x → HeedsAlone d
 
 -- a loss of the variable woke the constraints over it
 pub record WakesOthers (x : ℕ) (loss : Loss) (before after : Waiting) : Type 0 where

@@ -5,7 +5,7 @@ ghost use Rattle.palm_base.specs.Tells.{Tells};
 ghost use Rattle.palm_base.specs.declared.terms.Cid.{Cid as CidTerm};
 ghost use Rattle.palm_base.specs.Order.{Rises, cid_before, IsPartedAt};
 ghost use Rattle.palm_model.specs.State.{without_cid};
-ghost use Rattle.palm_agenda.specs.Agenda.{Connected, HasPlace, IsConnected, IsFormed, IsOver, IsStanding, Takes, changed_among, changed_at, index_within, marked_whole, mark_others, mark_own, connected_cids, unmarked, with_connected, without_connected};
+ghost use Rattle.palm_agenda.specs.Agenda.{Connected, HasPlace, IsConnected, IsFormed, IsOver, IsStanding, Takes, TakesClear, changed_among, changed_at, index_within, marked_whole, mark_others, mark_own, connected_cids, unmarked, with_connected, without_connected};
 ghost use Rattle.palm_agenda.specs.declared.mark.Mark.TheVariants.{Clear};
 ghost use Rattle.palm_agenda.specs.declared.loss.Loss.{Loss as LossTerm};
 ghost use Rattle.palm_agenda.specs.Heard.{IsHearing};
@@ -22,6 +22,7 @@ use crate::connection::{Connection, Places};
 use crate::connections::Connections;
 use crate::flags::{Flags, raised_from};
 use crate::heard::Heard;
+use crate::heedful::{is_heedful, note_heeds};
 use crate::loss::Loss;
 use crate::mark::Mark;
 use crate::open::Open;
@@ -50,6 +51,7 @@ pub struct Agenda {
     connections: Connections,
     pending: Flags,
     over: Vec<Cids>,
+    heedful: Vec<bool>,
     shown: Vec<Cid>,
     is_shown: bool,
     woken: Option<Woken>,
@@ -60,7 +62,7 @@ impl Model for Agenda {
     ghost use Rattle.std.specs.Prelude.{vec_capacity};
     ghost use Rattle.palm_agenda.specs.Agenda.{Waiting, connected_cids};
     ghost use Rattle.palm_agenda.specs.Flags.{flagged};
-    ghost use Rattle.palm_agenda.specs.Kept.{IsAgenda, IsShown, IsWoken};
+    ghost use Rattle.palm_agenda.specs.Kept.{IsAgenda, IsHeedful, IsShown, IsWoken};
 
     ghost Value = { Waiting };
 
@@ -68,7 +70,8 @@ impl Model for Agenda {
 
     ghost invariant = { λ a. IsAgenda a.connections a.over.items a.pending.flags (vec_capacity a.shown)
         × IsShown a.is_shown a.shown.items (flagged (connected_cids a.connections) a.pending.flags)
-        × IsWoken a.woken a.connections (flagged (connected_cids a.connections) a.pending.flags) };
+        × IsWoken a.woken a.connections (flagged (connected_cids a.connections) a.pending.flags)
+        × IsHeedful a.heedful.items a.connections };
 }
 
 /// How many of the connected constraints have ids that come before this one. That of a user is looked for first where it
@@ -117,7 +120,7 @@ fn wake_named(
         → is_open heard.old.still l ≡ false }
 {
     let place = place_near(connections, lag, cid);
-    let heed = connections.at(place).heed_of(var);
+    let heed = connections.at(place).heed_for(places, var);
     heard.hear(heed, places);
     connections.mark(place, places, var, &heard.change);
     pending.raise(place);
@@ -161,6 +164,37 @@ fn wake_each(
     }
     *known = lag;
     heard.still
+}
+
+/// Makes the constraint pending. It is looked for by the lag.
+#[inline(always)]
+fn raise_named(connections: &Connections, pending: &mut Flags, lag: &mut usize, cid: &Cid)
+    requires rising { Rises (connected_cids connections.now) }
+    requires flags { length pending.old.flags ≡ length connections.now }
+    requires there { IsConnected connections.now cid.now }
+    ensures pending { (c : CidTerm) → Contains (flagged (connected_cids connections.now) pending.new.flags) c
+        ↔ (Contains (flagged (connected_cids connections.now) pending.old.flags) c ⊎ (c ≡ cid.now)) }
+    ensures flags { length pending.new.flags ≡ length pending.old.flags }
+{
+    let place = place_near(connections, lag, cid);
+    pending.raise(place);
+}
+
+/// Makes each of the constraints pending.
+#[inline(always)]
+fn raise_each(connections: &Connections, pending: &mut Flags, known: &mut usize, cids: &[Cid])
+    requires rising { Rises (connected_cids connections.now) }
+    requires flags { length pending.old.flags ≡ length connections.now }
+    requires there { (c : CidTerm) → Contains cids.now c → IsConnected connections.now c }
+    ensures pending { (c : CidTerm) → Contains (flagged (connected_cids connections.now) pending.new.flags) c
+        ↔ (Contains (flagged (connected_cids connections.now) pending.old.flags) c ⊎ Contains cids.now c) }
+    ensures flags { length pending.new.flags ≡ length pending.old.flags }
+{
+    let mut lag = *known;
+    for cid in cids {
+        raise_named(connections, pending, &mut lag, cid);
+    }
+    *known = lag;
 }
 
 /// Takes a mark of the constraint away.
@@ -286,6 +320,7 @@ impl Agenda {
             connections: Connections::new(alloc),
             pending: Flags::new(alloc),
             over: Vec::new(alloc),
+            heedful: Vec::new(alloc),
             shown: Vec::new(alloc),
             is_shown: false,
             woken: None,
@@ -314,6 +349,7 @@ impl Agenda {
         )?;
         let alloc = *self.over.allocator();
         let connection = Connection::new(alloc, cid.copy(), scope, heeds)?;
+        note_heeds(&mut self.heedful, &connection)?;
         let place = self.connections.place_of(&cid);
         self.connections.insert(place, connection)?;
         self.pending.insert(place);
@@ -357,6 +393,12 @@ impl Agenda {
         self.is_shown = false;
         self.woken = None;
         let cids = cids_over(&self.over, &var);
+        if loss.several && !is_heedful(&self.heedful, &var) {
+            raise_each(&self.connections, &mut self.pending, &mut self.lag, cids);
+            let still = Open::of_alone();
+            self.woken = Some(Woken { var, still });
+            return;
+        }
         let still = wake_each(
             &mut self.connections,
             &mut self.pending,
@@ -463,6 +505,34 @@ impl Agenda {
         match order {
             None => self.take_first(),
             Some(order) => self.take_answered(order),
+        }
+    }
+
+    /// Takes pending constraints, at most so many, that come first and have no mark: no value lacks support in them. Answers how many.
+    pub fn take_clear(&mut self, most: u64) -> u64
+        ensures { TakesClear self.old self.new most result }
+    {
+        let mut taken = 0;
+        while taken < most && self.take_first_clear() {
+            taken += 1;
+        }
+        taken
+    }
+
+    /// Takes the first pending constraint, where one is pending and has no mark.
+    #[inline(always)]
+    fn take_first_clear(&mut self) -> bool
+        ensures taken { result ≡ true → TakesClear self.old self.new 1 1 }
+        ensures none { result ≡ false → self.new ≡ self.old }
+    {
+        match self.pending.first() {
+            Some(place) if are_clear(self.connections.at(place).marks()) => {
+                self.pending.lower(place);
+                self.is_shown = false;
+                self.woken = None;
+                true
+            }
+            _ => false,
         }
     }
 

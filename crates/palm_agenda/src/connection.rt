@@ -1,8 +1,10 @@
 //! One constraint of an agenda.
-ghost use Rattle.std.specs.Prelude.{◌≡◌, ◌<◌, length, true, Contains, IfOk, slice_index_or, slice_set};
+ghost use Rattle.std.specs.Prelude.{◌≡◌, ◌<◌, length, true, All, Contains, IfOk, slice_index_or, slice_set};
+ghost use Rattle.palm_filter.specs.declared.heed.Heed.TheVariants.{Alone};
 ghost use Rattle.palm_agenda.specs.declared.mark.Mark.TheVariants.{Clear};
-ghost use Rattle.palm_agenda.specs.Agenda.{HasMarks, changed_where, marked_whole, unmarked};
-ghost use Rattle.palm_agenda.specs.Heard.{ChangesAt};
+ghost use Rattle.palm_agenda.specs.Agenda.{HasMarks, HeedsAlone, changed_where, marked_whole, unmarked};
+ghost use Rattle.palm_agenda.specs.Heard.{ChangesAt, HasHeard};
+ghost use Rattle.palm_agenda.specs.declared.heard.Heard.{Heard as HeardTerm};
 ghost use Rattle.palm_agenda.specs.Losses.{heed_of};
 ghost use Rattle.palm_agenda.specs.Marks.{changed};
 ghost use Rattle.palm_agenda.specs.Places.{is_place, mark_places};
@@ -97,6 +99,18 @@ fn clear_one(marks: &mut Vec<Mark>, place: usize)
     marks[place] = Mark::Clear;
 }
 
+/// Whether each of the losses is heeded where one value is left alone.
+fn are_alone(heeds: &[Heed]) -> bool
+    ensures { result ≡ true → All (λ heed. heed ≡ Alone) heeds.now }
+{
+    for heed in heeds {
+        let Heed::Alone = heed else {
+            return false;
+        };
+    }
+    true
+}
+
 impl Connection {
     /// A constraint that is marked whole.
     pub(crate) fn new(
@@ -134,7 +148,7 @@ impl Connection {
 
     /// How losses of the variable are heeded.
     #[inline(always)]
-    pub(crate) fn heed_of(&self, var: &Var) -> Heed
+    fn heed_of(&self, var: &Var) -> Heed
         ensures { result ≡ heed_of var.now self.now.scope self.now.heeds }
     {
         for place in 0..self.scope.len() {
@@ -143,6 +157,25 @@ impl Connection {
             }
         }
         Heed::Each
+    }
+
+    /// How losses of the variable are heeded, where that tells how these places are marked.
+    #[inline(always)]
+    pub(crate) fn heed_for(&self, places: &Places, var: &Var) -> Heed
+        ensures { (heard : HeardTerm) → HasHeard heard places.now result → HasHeard heard places.now (heed_of var.now self.now.scope self.now.heeds) }
+    {
+        match places {
+            Places::Own { .. } => Heed::Each,
+            Places::Others(_) => self.heed_of(var),
+        }
+    }
+
+    /// Whether no loss that leaves several values marks it, as far as this shows at once.
+    pub(crate) fn heeds_alone(&self) -> bool
+        ensures { result ≡ true → HeedsAlone self.now }
+    {
+        let places = self.scope.len();
+        places <= 1 || places <= self.heeds.len() && are_alone(&self.heeds)
     }
 
     /// Marks each of these places, as seen from the variable, over which the constraint is. The change is that of a

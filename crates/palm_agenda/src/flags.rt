@@ -153,12 +153,11 @@ impl Flags {
         }
     }
 
-    /// Lowers the first flag that is raised, and tells its place.
+    /// The place of the first flag that is raised. It is looked for once.
     #[inline(always)]
-    pub(crate) fn lower_first(&mut self) -> Option<usize>
-        ensures { MatchOption result
-            ((count_raised self.old.flags ≡ 0) × (self.new ≡ self.old))
-            (λ place. IsFirst self.old.flags place × (self.new.flags ≡ slice_set self.old.flags place false)) }
+    pub(crate) fn first(&mut self) -> Option<usize>
+        ensures same { self.new ≡ self.old }
+        ensures first { MatchOption result (count_raised self.old.flags ≡ 0) (IsFirst self.old.flags) }
     {
         if self.raised == 0 {
             return None;
@@ -167,9 +166,19 @@ impl Flags {
         if place >= self.flags.len() {
             return None;
         }
-        set_flag(&mut self.flags, place, false);
-        self.raised -= 1;
         self.lowest = place;
+        Some(place)
+    }
+
+    /// Lowers the first flag that is raised, and tells its place.
+    #[inline(always)]
+    pub(crate) fn lower_first(&mut self) -> Option<usize>
+        ensures { MatchOption result
+            ((count_raised self.old.flags ≡ 0) × (self.new ≡ self.old))
+            (λ place. IsFirst self.old.flags place × (self.new.flags ≡ slice_set self.old.flags place false)) }
+    {
+        let place = self.first()?;
+        self.lower(place);
         Some(place)
     }
 }

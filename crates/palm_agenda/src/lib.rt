@@ -8,6 +8,7 @@ mod connection;
 mod connections;
 mod flags;
 mod heard;
+mod heedful;
 mod loss;
 mod mark;
 mod open;

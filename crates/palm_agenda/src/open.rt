@@ -1,5 +1,5 @@
 //! What another loss of a variable may still change.
-ghost use Rattle.std.specs.Prelude.{◌≡◌, false};
+ghost use Rattle.std.specs.Prelude.{◌≡◌, false, not};
 ghost use Rattle.palm_agenda.specs.declared.loss.Loss.{Loss as LossTerm};
 ghost use Rattle.palm_agenda.specs.declared.mark.Mark.{Mark as MarkTerm};
 ghost use Rattle.palm_agenda.specs.Losses.{mark_after};
@@ -32,6 +32,19 @@ impl Open {
             least: false,
             greatest: false,
             alone: false,
+        }
+    }
+
+    /// Those that leave one value.
+    #[inline(always)]
+    pub(crate) fn of_alone() -> Open
+        ensures { (l : LossTerm) → is_open result l ≡ not l.several }
+    {
+        Open {
+            each: false,
+            least: false,
+            greatest: false,
+            alone: true,
         }
     }
 

@@ -300,6 +300,15 @@ places_none (Others loss) x d none = elim (cases_Bool (is_over x d)) [
   | inr f ↦ if_false (is_over x d) (others_after x loss d) d f
 ]
 
+-- where there is no other variable, nothing is marked
+pub others_none : (x : ℕ) (loss : Loss) (d : Connected) → ((y : ℕ) → Contains d.scope y → y ≡ x) → mark_others x loss d ≡ d
+others_none x loss d one = elim (cases_Bool (is_over x d)) [
+  | inl t ↦
+      if_true (is_over x d) (others_after x loss d) d t
+      ∙ ap (λ marks. record d { marks = marks }) (marks_none (λ y. not (nat_eq y x)) (mark_after (heed_of x d.scope d.heeds) loss) d.scope d.marks (λ y m. ap not (eq-eqb y x (one y m))))
+  | inr f ↦ if_false (is_over x d) (others_after x loss d) d f
+]
+
 -- where it is, these places are
 pub places_over : (places : Places) (x : ℕ) (d : Connected) → Contains d.scope x → changed_where (is_place places x) (mark_at places (heed_of x d.scope d.heeds)) d ≡ mark_places places x d
 places_over (Own low high) x d over = refl

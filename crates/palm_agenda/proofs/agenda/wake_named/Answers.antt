@@ -26,7 +26,7 @@ mark-requires-clause-changes c = λ d here.
     let is = over_connected c.args.connections.now c.args.var.now c.args.cid.now c.requires.over in
     let owner = owner_is c.args.connections.now c.requires.rising c.args.cid.now c.place_near-place.result c.place_near-place.ensures is in
     subst (λ (e : Connected). ChangesAt c.hear.new.self.change c.args.places.now (heed_of c.args.var.now e.scope e.heeds)) (owner c.at.result.now c.at.ensures ∙ sym (owner d here))
-    (subst (ChangesAt c.hear.new.self.change c.args.places.now) c.heed_of-heed.ensures c.hear.ensures.heard.changes)
+    (c.heed_for-heed.ensures c.hear.new.self c.hear.ensures.heard).changes
 
 pub raise-requires : goal.raise-requires
 raise-requires c =
@@ -54,4 +54,4 @@ returns-clause-covers c =
     c.place_near-place.ensures
     c.at.result.now c.at.ensures
     (λ (d : Connected). Covers c.hear.new.self.still c.args.places.now (heed_of c.args.var.now d.scope d.heeds))
-    (subst (Covers c.hear.new.self.still c.args.places.now) c.heed_of-heed.ensures c.hear.ensures.heard.covers)
+    (c.heed_for-heed.ensures c.hear.new.self c.hear.ensures.heard).covers

@@ -43,6 +43,7 @@ invariant_of-self g c =
           (shown_connected c.self.inside.connections c.self.inside.over.items c.self.inside.pending.flags _ c.self.invariant.0 c.show.new.shown.items c.show.new.shown.items shows refl
           (index_within c.next-answer.result (length c.show.new.shown.items)) c.take_chosen-cid.result c.take_chosen-cid.ensures.chosen) (c.lower.ensures ∙ ap (λ (f : FlagRow). slice_set f.flags c.place_of-place.result false) c.lowest-lowest.ensures.same)),
       tt,
+      c.self.invariant.3,
     )
 
 pub returns-clause-some : goal.returns-clause-some

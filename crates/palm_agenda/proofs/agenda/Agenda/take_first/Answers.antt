@@ -23,6 +23,7 @@ invariant_of-self-2 c = (
   set_after c.self.inside.connections c.self.inside.over.items c.self.inside.pending.flags c.lower_first.new.self.flags _ _ c.in_ok-place.place false c.self.invariant.0 c.in_ok-place.ensures.1 (omega arith),
   tt,
   tt,
+  c.self.invariant.3,
 )
 
 pub returns-clause-some : goal.returns-clause-some

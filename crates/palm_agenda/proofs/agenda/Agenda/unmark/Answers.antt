@@ -3,6 +3,7 @@ use Rattle.palm_agenda.specs.Agenda.{changed_at, connected_cids, unmarked}
 use Rattle.palm_agenda.specs.Flags.{flagged}
 use Rattle.palm_agenda.specs.Kept.{IsShown}
 use Rattle.palm_agenda.proofs.cited.Keeping.{keeps_at, keeps_unmarked, kept_after, cids_kept}
+use Rattle.palm_agenda.proofs.Alone.{heedful_kept}
 use Rattle.palm_agenda.proofs.agenda.Agenda.unmark.Goals as goal
 
 pub invariant_of-self : goal.invariant_of-self
@@ -14,6 +15,7 @@ invariant_of-self c = (
       ∙ ap (λ cids. flagged cids c.self.inside.pending.flags) (cids_kept (changed_at c.args.taken.now.cid (unmarked c.args.place)) (keeps_at c.args.taken.now.cid (unmarked c.args.place) (keeps_unmarked c.args.place)) c.self.inside.connections)))
       c.self.invariant.1,
   tt,
+  heedful_kept (changed_at c.args.taken.now.cid (unmarked c.args.place)) (keeps_at c.args.taken.now.cid (unmarked c.args.place) (keeps_unmarked c.args.place)) c.self.inside.heedful.items c.self.inside.connections _ c.unmark_taken.ensures c.self.invariant.3,
 )
 
 pub returns-clause-pending : goal.returns-clause-pending

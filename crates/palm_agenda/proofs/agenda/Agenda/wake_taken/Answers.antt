@@ -18,6 +18,7 @@ invariant_of-self c = (
   set_after c.self.inside.connections c.self.inside.over.items c.self.inside.pending.flags c.raise.new.self.flags _ _ c.args.taken.now.at true c.self.invariant.0 c.raise.ensures (omega arith),
   tt,
   tt,
+  c.self.invariant.3,
 )
 
 pub returns-clause-pending : goal.returns-clause-pending
