@@ -1,5 +1,5 @@
 -- What an agenda holds: the connected constraints with their marks, and the ids of those that wait to be revised.
-use Rattle.std.specs.Prelude.{◌≡◌, ℕ, ℤ, ◌<◌, if◌then◌else◌, Bool, not, Some, List, [], ◌∷◌, ◌++◌, length, map, filter, All, Contains, nat_eq, nat_lt, slice_get, slice_set, replicate}
+use Rattle.std.specs.Prelude.{◌≡◌, ℕ, ℤ, ◌<◌, ◌≤◌, if◌then◌else◌, Bool, not, Some, List, [], ◌∷◌, ◌++◌, length, map, filter, All, Contains, nat_eq, nat_lt, slice_get, slice_set, replicate}
 use Rattle.std.specs.List.{list_any}
 use Rattle.palm_base.specs.declared.terms.Cid.{Cid}
 use Rattle.palm_base.specs.Order.{Rises, StandsAt, cid_before, same_cid}
@@ -125,3 +125,12 @@ index_within index count = if nat_lt index count then index else 0
 pub record Takes (before after : List Cid) (answer : ℕ) (cid : Cid) : Type 0 where
   pub chosen : slice_get before (index_within answer (length before)) ≡ Some cid
   pub pending : after ≡ without_cid cid before
+
+-- the first pending constraints, at most so many, are pending no longer; none of them has a mark
+pub record TakesClear (before after : Waiting) (most count : ℕ) : Type 0 where
+  pub taken : List Cid
+  pub order : before.pending ≡ taken ++ after.pending
+  pub many : length taken ≡ count
+  pub within : count ≤ most
+  pub connected : after.connected ≡ before.connected
+  pub clear : (d : Connected) → Contains before.connected d → Contains taken d.cid → All (λ mark. mark ≡ Clear) d.marks

