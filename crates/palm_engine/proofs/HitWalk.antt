@@ -1,5 +1,5 @@
 -- The walk over the values that the only value of another variable rules out.
-use Rattle.std.proofs.Common.{◌≡◌, ℕ, ◌<◌, ℤ, pos, ◌+ℤ◌, ◌<ℤ◌, ◌≤ℤ◌, Option, Some, None, IfSome, List, [], ◌∷◌, length, All, Contains, refl, arith}
+use Rattle.std.proofs.Common.{◌≡◌, ℕ, ◌<◌, ℤ, pos, ◌+ℤ◌, ◌<ℤ◌, ◌≤ℤ◌, Option, Some, None, IfSome, List, [], ◌∷◌, length, All, Contains, refl, sym, subst, arith}
 use Rattle.std.proofs.lemmas.Int.{ints}
 use Rattle.palm_base.proofs.cited.Members.{all_members}
 use Rattle.palm_domain.specs.Rows.{IsLeastOf, present_of, present_values}
@@ -11,7 +11,7 @@ use Rattle.palm_model.specs.Support.{IsSupported}
 use Rattle.palm_model.proofs.cited.Without.{pair_of}
 use Rattle.palm_filter.specs.Shapes.{IsApart}
 use Rattle.palm_engine.specs.declared.filtering.Filtering.{Filtering}
-use Rattle.palm_engine.specs.Advancing.{Advanced}
+use Rattle.palm_engine.specs.Advancing.{Advanced, HaveValues}
 use Rattle.palm_engine.specs.Revising.{IsRevising, Walked, HasCounted}
 use Rattle.palm_engine.proofs.Hits.{LeavesUpTo}
 use Rattle.palm_engine.proofs.Progress.{WalkedValues, values_start, values_passed, alone_after}
@@ -22,6 +22,11 @@ use Rattle.palm_engine.proofs.Skipping.{values_skipped, skipped_counted, passed_
 
 pub scope_stored : (f : Filtering) (active : List Active) (owner : Active) → IsRevising f active owner → All (λ y. y < length f.store) (scope owner.con)
 scope_stored f active owner r = all_members (λ y. y < length f.store) (scope owner.con) (λ y m. var_stored f active owner r y m)
+
+-- they have domains, and where those but one have values, these are told
+pub have_values : (f : Filtering) (active : List Active) (owner : Active) (x : ℕ) (vars : List ℕ) → vars ≡ scope owner.con → IsRevising f active owner → Contains (scope owner.con) x
+    → ((y : ℕ) → Contains (scope owner.con) y → (y ≡ x → ⊥) → 0 < length (values_of (present_of f.store) y)) → HaveValues f.store vars x
+have_values f active owner x vars same r over filled = subst (λ ys. HaveValues f.store ys x) (sym same) (record { declared = scope_stored f active owner r; over = var_stored f active owner r x over; filled = filled })
 
 some_or_none : (vs : List ℤ) → (vs ≡ [] → ⊥) → 0 < length vs
 some_or_none [] n = absurd (n refl)

@@ -1,5 +1,6 @@
 -- The values that the only value of another variable rules out.
-use Rattle.std.proofs.Common.{◌≡◌, ℕ, ◌<◌, Bool, true, false, cond, ℤ, pos, ◌+ℤ◌, ◌-ℤ◌, ◌<ℤ◌, ◌≤ℤ◌, Option, Some, None, IfNone, IfSome, List, [], ◌∷◌, length, Contains, int_lt, ◌⊎◌, inl, inr, sym, ◌∙◌, subst, arith}
+use Rattle.std.proofs.Common.{◌≡◌, ℕ, ◌<◌, Bool, true, false, cond, ℤ, pos, ◌+ℤ◌, ◌-ℤ◌, ◌<ℤ◌, ◌≤ℤ◌, Option, Some, None, is_some, IfNone, IfSome, List, [], ◌∷◌, length, Contains, int_lt, ◌⊎◌, inl, inr, sym, ◌∙◌, subst, arith}
+use Rattle.std.proofs.lemmas.Bool.{false≢true}
 use Rattle.std.proofs.lemmas.Int.{ints, clamps}
 use Rattle.std.proofs.lemmas.List.Elements.{All-contains}
 use Rattle.palm_base.proofs.cited.Members.{int_known, member_here, member_nil, member_there, member_single}
@@ -101,7 +102,34 @@ up_more d fewer more x by low a b y cases up one = record {
     before (Some u) None w lt = (lt, tt)
     before None b w is = (tt, is)
 
+-- ---- the values from one to another
+
+-- those that are present are left free by the variables
+abbrev pub LeavesWithin : Domains → List ℕ → ℕ → ℤ → ℤ → ℤ → Type 0
+LeavesWithin d vars x by low high = (v : ℤ) → Has d x v → low ≤ℤ v → v ≤ℤ high → LeavesFree d vars x by v
+
+pub within_same : (d : Domains) (fewer more : List ℕ) (x : ℕ) (by low high : ℤ) (y : ℕ) → ((z : ℕ) → Contains more z → Contains fewer z ⊎ (y ≡ z)) → y ≡ x → LeavesWithin d fewer x by low high → LeavesWithin d more x by low high
+within_same d fewer more x by low high y cases same free = λ v has le ge z m other. elim (cases z m) [
+  | inl n ↦ free v has le ge z n other
+  | inr e ↦ absurd (other (sym e ∙ same))
+]
+
+pub within_more : (d : Domains) (fewer more : List ℕ) (x : ℕ) (by low high : ℤ) (y : ℕ) → ((z : ℕ) → Contains more z → Contains fewer z ⊎ (y ≡ z)) → ((v : ℤ) → Has d x v → low ≤ℤ v → v ≤ℤ high → HasOther d y (v -ℤ by))
+    → LeavesWithin d fewer x by low high → LeavesWithin d more x by low high
+within_more d fewer more x by low high y cases one free = λ v has le ge z m other. elim (cases z m) [
+  | inl n ↦ free v has le ge z n other
+  | inr e ↦ subst (λ k. HasOther d k (v -ℤ by)) e (one v has le ge)
+]
+
 -- ---- what the calls say
+
+pub none_told : {T P : Type 0} (o : Option T) → IfNone o P → is_some o ≡ false → P
+none_told (Some x) p is = absurd (false≢true (sym is))
+none_told None p is = p
+
+pub on_none : {T P Q : Type 0} (o : Option T) → (P → Q) → IfNone o P → IfNone o Q
+on_none (Some x) f p = tt
+on_none None f p = f p
 
 pub if_none : {T P : Type 0} (o : Option T) → P → IfNone o P
 if_none (Some x) p = tt

@@ -1,5 +1,6 @@
 -- How far a revision has come over the places of a scope.
-use Rattle.std.proofs.Common.{◌≡◌, ℕ, zero, suc, ◌+◌, ◌<◌, ◌≤◌, true, List, [], ◌∷◌, ◌++◌, length, map, flat_map, sum_by, take, drop, All, Contains, Option, Some, None, slice_get, slice_set, get_or, inl, inr, refl, sym, ap, ◌∙◌, subst, arith}
+use Rattle.std.proofs.Common.{◌≡◌, ℕ, zero, suc, ◌+◌, ◌<◌, ◌≤◌, ℤ, true, List, [], ◌∷◌, ◌++◌, length, map, flat_map, sum_by, take, drop, All, Contains, Option, Some, None, slice_get, slice_set, get_or, inl, inr, refl, sym, ap, ◌∙◌, subst, arith}
+use Rattle.std.proofs.lemmas.Int.{ints}
 use Rattle.std.specs.Option.{is_some}
 use Rattle.std.proofs.lemmas.Bool.{cases_Bool, false≢true}
 use Rattle.std.proofs.lemmas.List.{append_assoc, take_more}
@@ -19,7 +20,8 @@ use Rattle.palm_model.specs.Log.{Active, log_pairs}
 use Rattle.palm_explain.specs.Explanations.{Explanations, LacksExactly}
 use Rattle.palm_model.specs.State.{HasEmpty, IsValid, woken}
 use Rattle.palm_agenda.specs.declared.mark.Mark.{Mark}
-use Rattle.palm_agenda.specs.declared.mark.Mark.TheVariants.{Clear}
+use Rattle.palm_agenda.specs.declared.mark.Mark.TheVariants.{Clear, Between, Whole}
+use Rattle.palm_agenda.specs.Marks.{MayLack}
 use Rattle.palm_agenda.specs.Agenda.{Connected, Waiting, HasMarks, HasPlace, IsFormed, connected_cids}
 use Rattle.palm_engine.specs.declared.filtering.Filtering.{Filtering}
 use Rattle.palm_engine.specs.Settling.{Walks, walk_order}
@@ -31,7 +33,7 @@ use Rattle.palm_engine.specs.Work.{users_removals}
 use Rattle.palm_engine.proofs.Bounds.{supported_past}
 use Rattle.palm_engine.proofs.Scopes.{bare_unmarked, connected_stays, heeded_stays}
 use Rattle.palm_engine.proofs.Unmarking.{active_connected, marked_walked, unmark}
-use Rattle.palm_engine.proofs.Progress.{walked_none, walked_then, walked_initial, counted_none, counted_then, counted_more}
+use Rattle.palm_engine.proofs.Progress.{walked_none, walked_then, walked_initial, counted_none, counted_then, counted_more, below_or_not}
 use Rattle.palm_engine.proofs.Revised.{present_is}
 
 -- ---- the agenda stays formed
@@ -91,6 +93,18 @@ pub mark_supported : (f : Filtering) (active : List Active) (owner : Active) (pl
 mark_supported f active owner place x m r at told v has out =
     let c = active_connected active f.agenda.connected r.kept.connected owner r.posted in
     r.kept.marked owner c.0 place x m v r.posted c.1 c.2 (ap (λ xs. slice_get xs place) c.3 ∙ at) (told c.0 c.1 c.2) out has
+
+-- and so have all, where those have it that the mark does not leave out
+pub mark_known : (m : Mark) (f : Filtering) (owner : Active) (x : ℕ) → AreSupportedUnless m f owner x → ((v : ℤ) → Has (present_of f.store) x v → MayLack m v → IsSupported (present_of f.store) owner.con x v) → AreSupportedAt f owner x
+mark_known Clear f owner x out known v has = out v has (λ may. may)
+mark_known Whole f owner x out known v has = known v has tt
+mark_known (Between low high) f owner x out known v has = elim (below_or_not v low) [
+  | inl lt ↦ out v has (λ may. let ge = may.0 in omega (arith, ints, lt, ge))
+  | inr ge ↦ elim (below_or_not high v) [
+    | inl lt ↦ out v has (λ may. let le = may.1 in omega (arith, ints, lt, le))
+    | inr le ↦ known v has (ge, le)
+  ]
+]
 
 pub place_past : (f : Filtering) (active : List Active) (owner : Active) (x : ℕ) → IsRevising f active owner → AreSupportedAt f owner x → Walked active owner (pairs_of x (values_of (initial_of f.store) x)) f f
 place_past f active owner x r supported =

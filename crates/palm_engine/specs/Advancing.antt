@@ -1,8 +1,8 @@
 -- How far a revision has come over the values of a variable.
-use Rattle.std.specs.Prelude.{◌≡◌, ◌≢◌, ◌<ℤ◌, ◌≤ℤ◌, ⊤, ℕ, ℤ, not, Option, Some, None, IfSome, List, filter, length, Contains, int_lt}
+use Rattle.std.specs.Prelude.{◌≡◌, ◌≢◌, ◌<ℤ◌, ◌≤ℤ◌, ⊤, ℕ, ℤ, not, Option, Some, None, IfSome, List, All, filter, length, Contains, ◌<◌, int_lt}
 use Rattle.std.specs.Int.{int_min}
 use Rattle.std.specs.Ordering.{int_eq}
-use Rattle.palm_domain.specs.Rows.{initial_of, present_of}
+use Rattle.palm_domain.specs.Rows.{Row, initial_of, present_of}
 use Rattle.palm_domain.specs.declared.placed.Placed.{Placed}
 use Rattle.palm_model.specs.Domains.{Domains, Has, values_of}
 use Rattle.palm_filter.specs.Shapes.{LeavesFree}
@@ -79,6 +79,12 @@ asked_of k vs = length (filter (λ v. int_eq v k) vs)
 -- and for one of the others, where there is one
 abbrev pub asked_but : ℤ → List ℤ → ℕ
 asked_but k vs = length (filter (λ v. not (int_eq v k)) vs)
+
+-- the variables and x have domains, and each variable but x has a value
+pub record HaveValues (rows : List Row) (vars : List ℕ) (x : ℕ) : Type 0 where
+  pub declared : All (λ y. y < length rows) vars
+  pub over : x < length rows
+  pub filled : (y : ℕ) → Contains vars y → y ≢ x → 0 < length (values_of (present_of rows) y)
 
 -- the least value from `low` on that one of the other variables does not leave free
 pub record IsNextHit (d : Domains) (vars : List ℕ) (x : ℕ) (by low v : ℤ) : Type 0 where

@@ -1,13 +1,15 @@
 //! The walk where a value lacks support only where the only value of another variable rules it out.
 ghost use Rattle.std.specs.Prelude.{◌≡◌, ◌≢◌, ℕ, ℤ, pos, ◌+ℤ◌, ◌-ℤ◌, ◌<ℤ◌, ◌≤ℤ◌, ◌<◌, List, length, All, Contains, OnErr, OnOk, IfNone, IfSome, true};
 ghost use Rattle.palm_domain.specs.Rows.{initial_of, present_of};
-ghost use Rattle.palm_filter.specs.Shapes.{HasOther, HasTwo, IsApart, LeavesFree};
+ghost use Rattle.palm_agenda.specs.Marks.{MayLack};
+ghost use Rattle.palm_filter.specs.Shapes.{HasOther, HasTwo, IsApart, IsShaped, LeavesFree};
 ghost use Rattle.palm_model.specs.Constraint.{scope};
 ghost use Rattle.palm_model.specs.Domains.{Has, values_of};
 ghost use Rattle.palm_model.specs.Log.{Active};
 ghost use Rattle.palm_model.specs.Removed.{pairs_of};
 ghost use Rattle.palm_model.specs.State.{AllFilled};
-ghost use Rattle.palm_engine.specs.Advancing.{IsNextHit, lesser_of};
+ghost use Rattle.palm_model.specs.Support.{IsSupported};
+ghost use Rattle.palm_engine.specs.Advancing.{HaveValues, IsNextHit, lesser_of};
 ghost use Rattle.palm_engine.specs.Posted.{active_of};
 ghost use Rattle.palm_engine.specs.Revising.{AreSupportedAt, HasCounted, IsRevising, Walked, WalkedPart};
 
@@ -15,9 +17,10 @@ use crate::filtering::Filtering;
 use crate::posted::Posted;
 use crate::reasons::ReasonRoom;
 use crate::values::examine;
+use palm_agenda::Mark;
 use palm_base::{NoMemory, Pair, Steps, Value, Var};
 use palm_domain::DomainStore;
-use palm_filter::Filter;
+use palm_filter::{Filter, Shape};
 use palm_model::number_of;
 use std::sync::ledger::Ledger;
 
@@ -32,7 +35,7 @@ fn has_two(store: &DomainStore, var: &Var) -> bool
 }
 
 /// Whether each of the variables but one has two values.
-pub(crate) fn have_two(store: &DomainStore, vars: &[Var], var: Var) -> bool
+fn have_two(store: &DomainStore, vars: &[Var], var: Var) -> bool
     requires { All (λ y. y < length store.now) vars.now }
     ensures { result ≡ true → (y : ℕ) → Contains vars.now y → y ≢ var → HasTwo (present_of store.now) y }
 {
@@ -63,23 +66,95 @@ fn value_between(number: i64, low: &Value, high: &Value) -> Option<Value>
     }
 }
 
-/// The present value of the variable that the only value of another one rules out: it is more by this number, and at least
-/// `from`.
-fn hit_at(store: &DomainStore, other: Var, var: Var, by: i32, from: Value) -> Option<Value>
+/// The present value of the variable, from the one to the other, that the only value of another one rules out: it is more by this
+/// number.
+#[inline(always)]
+fn hit_at(
+    store: &DomainStore,
+    other: Var,
+    var: Var,
+    by: i32,
+    low: &Value,
+    high: &Value,
+) -> Option<Value>
     requires declared { other < length store.now }
     requires over { var < length store.now }
     requires filled { 0 < length (values_of (present_of store.now) other) }
-    requires some { 0 < length (values_of (present_of store.now) var) }
-    ensures none { IfNone result ((v : ℤ) → Has (present_of store.now) var v → from ≤ℤ v → HasOther (present_of store.now) other (v -ℤ by)) }
-    ensures some { IfSome result (λ hit. Has (present_of store.now) var hit × (from ≤ℤ hit)
+    ensures none { IfNone result ((v : ℤ) → Has (present_of store.now) var v → low.now ≤ℤ v
+        → v ≤ℤ high.now → HasOther (present_of store.now) other (v -ℤ by)) }
+    ensures some { IfSome result (λ hit. Has (present_of store.now) var hit × (low.now ≤ℤ hit)
         × ((v : ℤ) → v ≢ hit → HasOther (present_of store.now) other (v -ℤ by))) }
 {
-    let number = raised(&store.least(other), by);
-    let value = value_between(number, &from, &store.greatest(var))?;
+    let value = value_between(raised(&store.least(other), by), low, high)?;
     if store.contains(Pair { var, value }) {
         Some(value)
     } else {
         None
+    }
+}
+
+/// Whether each of the variables but one leaves its values from the one to the other free.
+#[inline(always)]
+fn leave_free(
+    store: &DomainStore,
+    vars: &[Var],
+    var: Var,
+    by: i32,
+    low: &Value,
+    high: &Value,
+) -> bool
+    requires values { HaveValues store.now vars.now var }
+    ensures { result ≡ true → (v : ℤ) → Has (present_of store.now) var v → low.now ≤ℤ v
+        → v ≤ℤ high.now → LeavesFree (present_of store.now) vars.now var by v }
+{
+    for other in vars {
+        if *other != var
+            && !has_two(store, other)
+            && hit_at(store, *other, var, by, low, high).is_some()
+        {
+            return false;
+        }
+    }
+    true
+}
+
+/// Bounds of the present values of the variable that the mark does not leave out.
+#[inline(always)]
+fn ends_of(store: &DomainStore, var: Var, mark: &Mark) -> (Value, Value)
+    requires some { 0 < length (values_of (present_of store.now) var) }
+    ensures { (v : ℤ) → Has (present_of store.now) var v → MayLack mark.now v
+        → (result.0 ≤ℤ v) × (v ≤ℤ result.1) }
+{
+    match mark {
+        Mark::Between { low, high } => (*low, *high),
+        Mark::Clear | Mark::Whole => (store.least(var), store.greatest(var)),
+    }
+}
+
+/// Whether a law of the constraint tells that those values of a variable have support that the mark does not leave out.
+#[inline(always)]
+pub(crate) fn are_known<F: Filter>(
+    store: &DomainStore,
+    constraint: &Posted<F>,
+    var: Var,
+    shape: &Shape,
+    mark: &Mark,
+) -> bool
+    requires stored { All (λ y. y < length store.now)
+        (scope (active_of F.meaning constraint.now).con) }
+    requires filled { AllFilled (present_of store.now) }
+    requires over { Contains (scope (active_of F.meaning constraint.now).con) var }
+    requires shaped { IsShaped (active_of F.meaning constraint.now).con var shape.now }
+    ensures { result ≡ true → (v : ℤ) → Has (present_of store.now) var v → MayLack mark.now v
+        → IsSupported (present_of store.now) (active_of F.meaning constraint.now).con var v }
+{
+    match shape {
+        Shape::Apart(by) => {
+            let (low, high) = ends_of(store, var, mark);
+            leave_free(store, constraint.scope(), var, *by, &low, &high)
+        }
+        Shape::Guarded => have_two(store, constraint.scope(), var),
+        Shape::Any | Shape::Convex | Shape::AlikeBut(_) => false,
     }
 }
 
@@ -95,19 +170,17 @@ fn lesser(first: Option<Value>, second: Option<Value>) -> Option<Value>
 }
 
 /// The least present value from `from` on that the only value of one of the other variables rules out.
-#[inline(always)]
 fn next_hit(store: &DomainStore, vars: &[Var], var: Var, by: i32, from: Value) -> Option<Value>
-    requires declared { All (λ y. y < length store.now) vars.now }
-    requires over { var < length store.now }
-    requires filled { (y : ℕ) → Contains vars.now y → y ≢ var → 0 < length (values_of (present_of store.now) y) }
+    requires values { HaveValues store.now vars.now var }
     requires some { 0 < length (values_of (present_of store.now) var) }
     ensures none { IfNone result ((v : ℤ) → Has (present_of store.now) var v → from ≤ℤ v → LeavesFree (present_of store.now) vars.now var by v) }
     ensures some { IfSome result (IsNextHit (present_of store.now) vars.now var by from) }
 {
+    let greatest = store.greatest(var);
     let mut next = None;
     for other in vars {
         if *other != var && !has_two(store, other) {
-            next = lesser(next, hit_at(store, *other, var, by, from));
+            next = lesser(next, hit_at(store, *other, var, by, &from, &greatest));
         }
     }
     next
@@ -116,9 +189,7 @@ fn next_hit(store: &DomainStore, vars: &[Var], var: Var, by: i32, from: Value) -
 /// The least present value above this one that the only value of one of the other variables rules out.
 #[inline(never)]
 fn hit_after(store: &DomainStore, vars: &[Var], var: Var, by: i32, value: Value) -> Option<Value>
-    requires declared { All (λ y. y < length store.now) vars.now }
-    requires over { var < length store.now }
-    requires filled { (y : ℕ) → Contains vars.now y → y ≢ var → 0 < length (values_of (present_of store.now) y) }
+    requires values { HaveValues store.now vars.now var }
     ensures none { IfNone result ((v : ℤ) → Has (present_of store.now) var v → value <ℤ v → LeavesFree (present_of store.now) vars.now var by v) }
     ensures some { IfSome result (IsNextHit (present_of store.now) vars.now var by (value +ℤ pos 1)) }
 {

@@ -12,6 +12,7 @@ ghost use Rattle.palm_engine.specs.Revising.{HasCounted, IsRevising, Walked, Wal
 ghost use Rattle.palm_engine.specs.Settling.{walk_order};
 ghost use Rattle.palm_engine.specs.Work.{size_of};
 
+use crate::apart::are_known;
 use crate::filtering::Filtering;
 use crate::posted::Posted;
 use crate::reasons::ReasonRoom;
@@ -49,7 +50,12 @@ fn revise_place<F: Filter, L: Ledger>(
     if let Mark::Clear = mark {
         return Ok(());
     }
-    revise_values(filtering, constraint, place, var, mark, room, steps)?;
+    let shape = constraint.shape(place);
+    if are_known(&filtering.store, constraint, var, &shape, &mark) {
+        filtering.agenda.unmark(taken, place);
+        return Ok(());
+    }
+    revise_values(filtering, constraint, var, shape, mark, room, steps)?;
     filtering.agenda.unmark(taken, place);
     Ok(())
 }

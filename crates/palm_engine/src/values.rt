@@ -1,6 +1,7 @@
 //! Walks over the values of a variable of a constraint: the values that lack support are taken out.
-ghost use Rattle.std.specs.Prelude.{◌≡◌, [], ◌∷◌, List, length, Contains, Some, slice_get, OnErr, OnOk};
+ghost use Rattle.std.specs.Prelude.{◌≡◌, [], ◌∷◌, List, length, Contains, OnErr, OnOk};
 ghost use Rattle.palm_domain.specs.Rows.{LosesPair, initial_of, present_of};
+ghost use Rattle.palm_filter.specs.Shapes.{IsShaped};
 ghost use Rattle.palm_model.specs.Constraint.{scope};
 ghost use Rattle.palm_model.specs.Domains.{Has, values_of};
 ghost use Rattle.palm_model.specs.Log.{Active};
@@ -14,7 +15,7 @@ ghost use Rattle.palm_engine.specs.Revising.{AreSupportedAt, HasCounted, IsRevis
 ghost use Rattle.palm_engine.specs.Settling.{IsDue};
 
 use crate::alike::revise_alike;
-use crate::apart::{have_two, revise_apart};
+use crate::apart::revise_apart;
 use crate::between::revise_between;
 use crate::filtering::Filtering;
 use crate::posted::Posted;
@@ -210,20 +211,22 @@ fn revise_marked<F: Filter, L: Ledger>(
     }
 }
 
-/// Takes the values of the variable at a place of the scope out that lack support. Those that the mark leaves out have it.
-/// Where a law of the constraint tells of a value that it has support, or lacks it, that is not asked for.
+/// Takes the values of the variable out that lack support. Those that the mark leaves out have it. Where a law of the constraint tells
+/// of a value that it has support, or lacks it, that is not asked for.
+#[inline(never)]
 pub(crate) fn revise_values<F: Filter, L: Ledger>(
     filtering: &mut Filtering,
     constraint: &Posted<F>,
-    place: usize,
     var: Var,
+    shape: Shape,
     mark: Mark,
     room: &mut ReasonRoom,
     steps: &mut Steps<L>,
 ) -> Result<(), NoMemory>
     requires revising { (active : List Active) × IsRevising filtering.old active (active_of F.meaning constraint.now) }
     requires filled { AllFilled (present_of filtering.old.store) }
-    requires at { slice_get (scope (active_of F.meaning constraint.now).con) place ≡ Some var }
+    requires over { Contains (scope (active_of F.meaning constraint.now).con) var }
+    requires shaped { IsShaped (active_of F.meaning constraint.now).con var shape }
     requires known { AreSupportedUnless mark filtering.old (active_of F.meaning constraint.now) var }
     ensures walked { (active : List Active) → IsRevising filtering.old active (active_of F.meaning constraint.now)
         → OnOk result (Walked active (active_of F.meaning constraint.now) (pairs_of var (values_of (initial_of filtering.old.store) var)) filtering.old filtering.new) }
@@ -234,10 +237,9 @@ pub(crate) fn revise_values<F: Filter, L: Ledger>(
     ensures supported { OnOk result (AreSupportedAt filtering.new (active_of F.meaning constraint.now) var) }
     ensures counted { HasCounted (length (values_of (initial_of filtering.old.store) var)) filtering.old filtering.new steps.old steps.new }
 {
-    match constraint.shape(place) {
+    match shape {
         Shape::Convex => revise_between(filtering, constraint, var, room, steps),
         Shape::AlikeBut(value) => revise_alike(filtering, constraint, var, value, room, steps),
-        Shape::Guarded if have_two(&filtering.store, constraint.scope(), var) => Ok(()),
         Shape::Apart(by) => revise_apart(filtering, constraint, var, by, room, steps),
         Shape::Guarded | Shape::Any => {
             revise_marked(filtering, constraint, var, mark, room, steps)

@@ -5,7 +5,7 @@ use Rattle.std.proofs.lemmas.Int.{to_z-of_z}
 use Rattle.std.proofs.lemmas.List.{take_all}
 use Rattle.palm_base.proofs.cited.Members.{member_take_more}
 use Rattle.palm_domain.specs.Rows.{present_of}
-use Rattle.palm_engine.proofs.Hits.{LeavesUpTo, up_same, up_two, up_more, up_one, up_whole_none, up_whole_some}
+use Rattle.palm_engine.proofs.Hits.{LeavesUpTo, on_none, up_same, up_two, up_more, up_one, up_whole_none, up_whole_some}
 use Rattle.palm_engine.proofs.apart.next_hit.Goals as goal
 use Rattle.palm_engine.proofs.apart.next_hit.Goals.{then-ne+then-not-has_two, else-ne, else-ne-via-then-ne+else-not-has_two, else-ne-via-else-ne}
 
@@ -18,7 +18,8 @@ loop-other-preserved c =
     let cases = λ (z : ℕ) (m : Contains (take (i + 1) vars) z). member_take_more vars i c.other-item.result z c.loop-other-test.true c.other-item.is m in
     elim c.if-ne.branch [
       | then-ne+then-not-has_two w ↦
-          let one = up_one d c.args.var _ c.args.from w.hit_at.result c.other-item.result w.hit_at.ensures.none w.hit_at.ensures.some in
+          let none = on_none w.hit_at.result (λ free v has le. free v has le (c.greatest-greatest.ensures.greatest v has)) w.hit_at.ensures.none in
+          let one = up_one d c.args.var by c.args.from w.hit_at.result c.other-item.result none w.hit_at.ensures.some in
           subst (λ n. LeavesUpTo d (take (i + 1) vars) c.args.var by c.args.from n) (sym (w.next-is ∙ w.lesser-next.ensures))
           (up_more d (take i vars) (take (i + 1) vars) c.args.var by c.args.from c.loop-other.next w.hit_at.result c.other-item.result cases c.loop-other.invariant one)
       | else-ne w ↦

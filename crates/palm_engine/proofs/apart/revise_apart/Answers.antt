@@ -1,4 +1,4 @@
-use Rattle.std.proofs.Common.{ℕ, ◌<◌, pos, ◌+ℤ◌, List, length, All, Contains, w32, sym, subst}
+use Rattle.std.proofs.Common.{◌<◌, pos, ◌+ℤ◌, w32, sym, subst}
 use Rattle.std.proofs.lemmas.Int.{to_z-of_z}
 use Rattle.palm_domain.specs.Rows.{initial_of, present_of}
 use Rattle.palm_model.specs.Constraint.{scope}
@@ -9,9 +9,9 @@ use Rattle.palm_engine.specs.Posted.{active_of}
 use Rattle.palm_engine.specs.Revising.{WalkedPart}
 use Rattle.palm_engine.proofs.Bounds.{left_from}
 use Rattle.palm_engine.proofs.Hits.{up_answered, up_answered_after, up_read}
-use Rattle.palm_engine.proofs.HitWalk.{scope_stored, filled_after, hits_start, hits_more, above_value}
+use Rattle.palm_engine.proofs.HitWalk.{have_values, filled_after, hits_start, hits_more, above_value}
 use Rattle.palm_engine.proofs.Progress.{WalkedValues, values_done, values_supported, values_stopped, values_counted, values_filled, on_err_of}
-use Rattle.palm_engine.proofs.Revised.{var_present, var_stored}
+use Rattle.palm_engine.proofs.Revised.{var_present}
 use Rattle.palm_engine.proofs.Skipping.{skipped_fewer}
 use Rattle.palm_engine.proofs.apart.revise_apart.Goals as goal
 
@@ -20,17 +20,12 @@ least-least-requires g c =
     let r = c.requires.revising in
     c.requires.filled c.args.var (var_present c.args.filtering.now r.0 (active_of g.F.Filter.meaning c.args.constraint.now) r.1 c.args.var c.requires.over)
 
-pub next_hit-next-requires-clause-declared : goal.next_hit-next-requires-clause-declared
-next_hit-next-requires-clause-declared g c =
+pub next_hit-next-requires-clause-values : goal.next_hit-next-requires-clause-values
+next_hit-next-requires-clause-values g c =
     let r = c.requires.revising in
-    subst (λ (vars : List ℕ). All (λ y. y < length c.args.filtering.now.store) vars) (sym c.scope.ensures.scope)
-    (scope_stored c.args.filtering.now r.0 (active_of g.F.Filter.meaning c.args.constraint.now) r.1)
-
-pub next_hit-next-requires-clause-filled : goal.next_hit-next-requires-clause-filled
-next_hit-next-requires-clause-filled g c = λ y m other.
-    let r = c.requires.revising in
-    c.requires.filled y
-    (var_present c.args.filtering.now r.0 (active_of g.F.Filter.meaning c.args.constraint.now) r.1 y (subst (λ (vars : List ℕ). Contains vars y) c.scope.ensures.scope m))
+    let owner = active_of g.F.Filter.meaning c.args.constraint.now in
+    let f = c.args.filtering.now in
+    have_values f r.0 owner c.args.var c.scope.result.now c.scope.ensures.scope r.1 c.requires.over (λ y m other. c.requires.filled y (var_present f r.0 owner r.1 y m))
 
 pub loop-next-init : goal.loop-next-init
 loop-next-init g c = λ active r.
@@ -71,28 +66,18 @@ returns-in_err-examine-clause-counted g c =
     let w = subst (λ n. WalkedValues r.0 owner c.args.var n f c.loop-next.filtering c.args.steps.now c.loop-next.steps) c.in-Some.is (c.loop-next.invariant r.0 r.1) in
     values_counted r.0 owner c.args.var c.in-Some.value f c.loop-next.filtering c.examine.new.filtering c.args.steps.now c.loop-next.steps c.examine.new.steps w.advanced w.counted c.examine.ensures.counted
 
-pub hit_after-next-requires-clause-declared : goal.hit_after-next-requires-clause-declared
-hit_after-next-requires-clause-declared g c =
-    let r = c.requires.revising in
-    let w = c.loop-next.invariant r.0 r.1 in
-    subst (λ (vars : List ℕ). All (λ y. y < length c.examine.new.filtering.store) vars) (sym c.scope-in-Some.ensures.scope)
-    (scope_stored c.examine.new.filtering r.0 (active_of g.F.Filter.meaning c.args.constraint.now) (c.examine.ensures.revising r.0 w.advanced.revising))
-
-pub hit_after-next-requires-clause-over : goal.hit_after-next-requires-clause-over
-hit_after-next-requires-clause-over g c =
-    let r = c.requires.revising in
-    let w = c.loop-next.invariant r.0 r.1 in
-    var_stored c.examine.new.filtering r.0 (active_of g.F.Filter.meaning c.args.constraint.now) (c.examine.ensures.revising r.0 w.advanced.revising) c.args.var c.requires.over
-
-pub hit_after-next-requires-clause-filled : goal.hit_after-next-requires-clause-filled
-hit_after-next-requires-clause-filled g c = λ y m other.
+pub hit_after-next-requires : goal.hit_after-next-requires
+hit_after-next-requires g c =
     let r = c.requires.revising in
     let owner = active_of g.F.Filter.meaning c.args.constraint.now in
     let f = c.args.filtering.now in
     let w = subst (λ n. WalkedValues r.0 owner c.args.var n f c.loop-next.filtering c.args.steps.now c.loop-next.steps) c.in-Some.is (c.loop-next.invariant r.0 r.1) in
     let told = c.in_ok-examine.ensures in
-    filled_after r.0 owner c.args.var c.in-Some.value f c.loop-next.filtering c.examine.new.filtering w.advanced (told.revising r.0 w.advanced.revising) (told.walked r.0 w.advanced.revising) y
-    (subst (λ (vars : List ℕ). Contains vars y) c.scope-in-Some.ensures.scope m) other
+    let still = told.revising r.0 w.advanced.revising in
+    record {
+      values = have_values c.examine.new.filtering r.0 owner c.args.var c.scope-in-Some.result.now c.scope-in-Some.ensures.scope still c.requires.over
+          (filled_after r.0 owner c.args.var c.in-Some.value f c.loop-next.filtering c.examine.new.filtering w.advanced still (told.walked r.0 w.advanced.revising));
+    }
 
 pub loop-next-smaller : goal.loop-next-smaller
 loop-next-smaller g c =
