@@ -1,12 +1,12 @@
 -- What a line says, in any family of texts that list variables and constraints and have phrases of their own: the reader finds it,
 -- and no line says two things.
-use Rattle.std.proofs.Common.{◌≡◌, ℕ, ◌<◌, ◌≤◌, Bool, true, false, codes, [], ◌∷◌, length, drop, All, arith, Option, Some, None, List, refl, sym, ap, ◌∙◌, subst, inl, inr, ◌⊎◌}
+use Rattle.std.proofs.Common.{◌≡◌, ℕ, ◌<◌, ◌≤◌, Bool, true, false, codes, [], ◌∷◌, length, drop, arith, Option, Some, None, List, refl, sym, ap, ◌∙◌, subst, inl, inr, ◌⊎◌}
 use Rattle.std.proofs.lemmas.Bool.{false≢true}
 use Rattle.std.proofs.lemmas.Option.{same_Some, none-some}
 use Rattle.palm_read.specs.Bytes.{IsComment, IsPlain}
 use Rattle.palm_read.specs.Grammar.{IsForm, pieces}
-use Rattle.palm_read.specs.Piece.{word}
-use Rattle.palm_read.specs.Reader.Steps.{Reading, front_text, token_at, and_then, choose}
+use Rattle.palm_read.specs.Piece.{Piece, Keyword, Spells, word}
+use Rattle.palm_read.specs.Reader.Steps.{Reading, front_text, token_at, and_then, choose, is_empty}
 use Rattle.palm_read.specs.Form.{Form}
 use Rattle.palm_read.specs.Reading.{IsRead, IsRefusedBy, a_comment, a_form, line_of}
 use Rattle.palm_read.specs.Token.{Lexeme, tokens_of}
@@ -17,11 +17,12 @@ use Rattle.palm_read.specs.Form.{DeclareForm, AddForm, RelaxForm}
 use Rattle.palm_read.specs.declared.mode.Mode.TheVariants.{Two}
 use Rattle.palm_read.specs.declared.parse.LineError.{LineError}
 use Rattle.palm_read.specs.declared.parse.LineError.TheVariants.{Bytes, Form as NoForm, Range as OutOfRange, Empty, Repeated, NoMemory}
-use Rattle.palm_read.proofs.cited.Begins.{begins_from_spells, keyword_first}
+use Rattle.palm_read.proofs.cited.Begins.{Begins, begins_from_spells, keyword_first, spells_from_begins}
 use Rattle.palm_read.proofs.cited.Front.{and_then_some, guard_some, token_is}
-use Rattle.palm_read.proofs.cited.PlainTokens.{IsKnown, tokens_plain, word_says}
+use Rattle.palm_read.proofs.cited.LineForms.{empty_is, form_again}
+use Rattle.palm_read.proofs.cited.PlainTokens.{spelled_known, tokens_plain, word_says}
 use Rattle.palm_read.proofs.cited.Parsing.{one_reading, read_not_refused, each_answered}
-use Rattle.palm_claim.specs.Phrases.{ArePhrases, Phrases, Says, begins_phrase, is_some_lead, of_line, phrase_of}
+use Rattle.palm_claim.specs.Phrases.{ArePhrases, Phrases, Says, begins_phrase, is_led, is_some_lead, of_line, phrase_of}
 use Rattle.palm_claim.specs.declared.statement.Statement.{Statement}
 use Rattle.palm_claim.specs.declared.statement.Statement.TheVariants.{Comment, Variable, Constraint, Phrase}
 
@@ -45,17 +46,23 @@ module _ (is_lead : List ℕ → Bool) where
   unfolding begins_phrase front_text choose
   lead_of w tokens rest e = ap (begins_phrase is_lead) e
 
-  -- such a line of known tokens is plain
-  pub led_plain : (bytes : List ℕ) → length bytes ≤ 65536 → begins_phrase is_lead (tokens_of bytes) ≡ true → All IsKnown (tokens_of bytes) → IsPlain bytes
-  led_plain bytes short b known =
-      let w = led (tokens_of bytes) b in
-      record {
-        short = short;
-        says = word_says bytes w.0 (drop 1 (tokens_of bytes)) w.1;
-        plain = tokens_plain (length bytes) bytes (omega arith) known;
-      }
+  led_begins : (ps : List Piece) (tokens : List Lexeme) → is_led is_lead ps ≡ true → Begins tokens ps [] → begins_phrase is_lead tokens ≡ true
+  led_begins (Keyword w ∷ ps) tokens e b = let k = keyword_first b in lead_of w tokens k.0 k.1 ∙ e
+  led_begins _ tokens e b = absurd (false≢true e)
 
 -- ---- the phrase of all tokens
+
+-- what was taken of the tokens begins with its pieces, with its numbers in range; also cited by proofs
+abbrev pub Taken : {A : Type 0} → (A → List Piece) → (A → Type 0) → List Lexeme → A × List Lexeme → Type 0
+Taken pieces InRange tokens x = Begins tokens (pieces x.0) x.1 × InRange x.0
+
+pub taken_as : {A : Type 0} (pieces : A → List Piece) (InRange : A → Type 0) (tokens : List Lexeme) (made x : A × List Lexeme)
+    → ◌≡◌ {A = Reading A} (Some made) (Some x) → Taken pieces InRange tokens made → Taken pieces InRange tokens x
+taken_as pieces InRange tokens made x e t = subst (Taken pieces InRange tokens) (same_Some made x e) t
+
+pub taken_spelled : {A : Type 0} (pieces : A → List Piece) (InRange : A → Type 0) (tokens : List Lexeme) (x : A × List Lexeme)
+    → Taken pieces InRange tokens x → is_empty x.1 ≡ true → Spells tokens (pieces x.0) × InRange x.0
+taken_spelled pieces InRange tokens x t last = (spells_from_begins (subst (λ rest. Begins tokens (pieces x.0) rest) (empty_is x.1 last) t.0), t.1)
 
 -- one that is read is followed by nothing
 pub ended_phrase : {P : Type 0} (phrase_at : List Lexeme → Reading P) (tokens : List Lexeme) (phrase : P) → phrase_at tokens ≡ Some (phrase, []) → phrase_of phrase_at tokens ≡ Some phrase
@@ -73,15 +80,18 @@ read_comment bytes (a_comment c) = c
 read_comment bytes (a_form form p h a r n t e) = absurd (no_comment form e)
 
 module _ {P : Type 0} (phrases : Phrases P) (are : ArePhrases phrases) where
+  led_spelled : (tokens : List Lexeme) (phrase : P) → Spells tokens (phrases.pieces phrase) → begins_phrase phrases.is_lead tokens ≡ true
+  led_spelled tokens phrase h = led_begins phrases.is_lead (phrases.pieces phrase) tokens (are.led phrase) (begins_from_spells (phrases.pieces phrase) tokens h)
+
   -- what is read is a phrase with its numbers in range
-  phrase_is : (tokens : List Lexeme) (phrase : P) → phrase_of phrases.phrase_at tokens ≡ Some phrase → phrases.IsSpelled tokens phrase × phrases.AreInRange phrase
+  phrase_is : (tokens : List Lexeme) (phrase : P) → phrase_of phrases.phrase_at tokens ≡ Some phrase → Spells tokens (phrases.pieces phrase) × phrases.AreInRange phrase
   unfolding phrase_of
   phrase_is tokens phrase e =
       let read = and_then_some e in
       let last = guard_some read.2 in
       let is = are.takes tokens read.0 read.1 last.0 in
       let same : read.0.0 ≡ phrase = same_Some read.0.0 phrase last.1 in
-      (subst (λ (p : P). phrases.IsSpelled tokens p) same is.0, subst (λ (p : P). phrases.AreInRange p) same is.1)
+      (subst (λ (p : P). Spells tokens (phrases.pieces p)) same is.0, subst (λ (p : P). phrases.AreInRange p) same is.1)
 
   -- ---- how a line says something: as a line of a session, or by a phrase
 
@@ -110,9 +120,12 @@ module _ {P : Type 0} (phrases : Phrases P) (are : ArePhrases phrases) where
 
   -- ---- a line is not both
 
-  not_both : (bytes : List ℕ) (line : Line) (phrase : P) → IsRead Two bytes line → IsPlain bytes → phrases.IsSpelled (tokens_of bytes) phrase → ⊥
+  no_form : (tokens : List Lexeme) (phrase : P) (form : Form) → Spells tokens (phrases.pieces phrase) → IsForm tokens form → ⊥
+  no_form tokens phrase form h is = none-some form (sym (are.no_form tokens phrase h) ∙ form_again tokens form is)
+
+  not_both : (bytes : List ℕ) (line : Line) (phrase : P) → IsRead Two bytes line → IsPlain bytes → Spells (tokens_of bytes) (phrases.pieces phrase) → ⊥
   not_both bytes _ phrase (a_comment c) plain h = false≢true (sym plain.says ∙ c.note)
-  not_both bytes line phrase (a_form form p is a r n t e) plain h = are.no_form (tokens_of bytes) phrase form h is
+  not_both bytes line phrase (a_form form p is a r n t e) plain h = no_form (tokens_of bytes) phrase form h is
 
   -- no line says two things
   pub one_saying : (bytes : List ℕ) (s t : Statement P) → Says phrases bytes s → Says phrases bytes t → s ≡ t
@@ -153,12 +166,12 @@ module _ {P : Type 0} (phrases : Phrases P) (are : ArePhrases phrases) where
     | inr p ↦ no_phrase error refused known other p.0 p.2 (phrase_is (tokens_of bytes) p.0 p.3).0
   ]
     where
-      no_phrase : (error : LineError) → IsRefusedBy Two bytes error → (error ≡ NoMemory → ⊥) → (error ≡ NoForm → ⊥) → (phrase : P) → IsPlain bytes → phrases.IsSpelled (tokens_of bytes) phrase → ⊥
+      no_phrase : (error : LineError) → IsRefusedBy Two bytes error → (error ≡ NoMemory → ⊥) → (error ≡ NoForm → ⊥) → (phrase : P) → IsPlain bytes → Spells (tokens_of bytes) (phrases.pieces phrase) → ⊥
       no_phrase Bytes refused known other phrase plain h = refused.not_plain plain
       no_phrase NoForm refused known other phrase plain h = other refl
-      no_phrase OutOfRange refused known other phrase plain h = are.no_form (tokens_of bytes) phrase refused.1 h refused.2
-      no_phrase Empty refused known other phrase plain h = are.no_form (tokens_of bytes) phrase refused.1 h refused.2
-      no_phrase Repeated refused known other phrase plain h = are.no_form (tokens_of bytes) phrase refused.1 h refused.2
+      no_phrase OutOfRange refused known other phrase plain h = no_form (tokens_of bytes) phrase refused.1 h refused.2
+      no_phrase Empty refused known other phrase plain h = no_form (tokens_of bytes) phrase refused.1 h refused.2
+      no_phrase Repeated refused known other phrase plain h = no_form (tokens_of bytes) phrase refused.1 h refused.2
       no_phrase NoMemory refused known other phrase plain h = known refl
 
   -- each line says something, or nothing
@@ -204,7 +217,14 @@ module _ {P : Type 0} (phrases : Phrases P) (are : ArePhrases phrases) where
 
   -- a line that begins so says its phrase
   pub led_says : (bytes : List ℕ) (phrase : P) → length bytes ≤ 65536 → phrase_of phrases.phrase_at (tokens_of bytes) ≡ Some phrase → Says phrases bytes (Phrase phrase)
-  led_says bytes phrase short e = phrase_says bytes phrase (are.plain bytes phrase short (phrase_is (tokens_of bytes) phrase e).0) e
+  led_says bytes phrase short e =
+      let h = (phrase_is (tokens_of bytes) phrase e).0 in
+      let w = led phrases.is_lead (tokens_of bytes) (led_spelled (tokens_of bytes) phrase h) in
+      phrase_says bytes phrase (record {
+        short = short;
+        says = word_says bytes w.0 (drop 1 (tokens_of bytes)) w.1;
+        plain = tokens_plain (length bytes) bytes (omega arith) (spelled_known (tokens_of bytes) (phrases.pieces phrase) h);
+      }) e
 
   -- and nothing else
   pub led_says_nothing : (bytes : List ℕ) → begins_phrase phrases.is_lead (tokens_of bytes) ≡ true → phrase_of phrases.phrase_at (tokens_of bytes) ≡ None → (s : Statement P) → Says phrases bytes s → ⊥
@@ -217,5 +237,5 @@ module _ {P : Type 0} (phrases : Phrases P) (are : ArePhrases phrases) where
   pub unled_says_nothing : (bytes : List ℕ) (error : LineError) → begins_phrase phrases.is_lead (tokens_of bytes) ≡ false → IsRefusedBy Two bytes error → (error ≡ NoMemory → ⊥) → (s : Statement P) → Says phrases bytes s → ⊥
   unled_says_nothing bytes error b refused known s h = elim (says_as bytes s h) [
     | inl l ↦ no_line bytes error refused known s l
-    | inr p ↦ false≢true (sym b ∙ are.led (tokens_of bytes) p.0 (phrase_is (tokens_of bytes) p.0 p.3).0)
+    | inr p ↦ false≢true (sym b ∙ led_spelled (tokens_of bytes) p.0 (phrase_is (tokens_of bytes) p.0 p.3).0)
   ]
