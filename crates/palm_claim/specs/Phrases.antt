@@ -4,20 +4,18 @@ use Rattle.std.specs.Prelude.{◌≡◌, ℕ, Bool, true, false, Option, Some, N
 use Rattle.palm_read.specs.Bytes.{IsComment, IsPlain}
 use Rattle.palm_read.specs.Piece.{Piece, Keyword, Mark, Numeral, Spells, numeral, sign, word}
 use Rattle.palm_read.specs.Reader.Lines.{form_at}
-use Rattle.palm_read.specs.Reader.Steps.{Reading, ◌>>=◌, choose, front_text, is_empty}
+use Rattle.palm_read.specs.Reader.Steps.{Reading, ◌>>=◌, choose, is_empty}
 use Rattle.palm_read.specs.Reading.{IsRead}
 use Rattle.palm_read.specs.Token.{Lexeme, tokens_of}
 use Rattle.palm_read.specs.declared.line.Line.{Line}
 use Rattle.palm_read.specs.declared.line.Line.TheVariants.{Comment as CommentLine, Var, Add}
 use Rattle.palm_read.specs.declared.mode.Mode.TheVariants.{Two}
-use Rattle.palm_read.specs.declared.tokens.TokenKind.TheVariants.{Word}
 use Rattle.palm_claim.specs.declared.statement.Statement.{Statement}
 use Rattle.palm_claim.specs.declared.statement.Statement.TheVariants.{Comment, Variable, Constraint, Phrase}
 
--- the phrases of such texts: the words that they begin with, what is read of one in front of tokens, which pieces one is written
--- with, and whether its numbers are in their ranges
+-- the phrases of such texts: what is read of one in front of tokens, which pieces one is written with, and whether its numbers
+-- are in their ranges
 pub record Phrases (P : Type 0) : Type 1 where
-  pub is_lead : List ℕ → Bool
   pub phrase_at : List Lexeme → Reading P
   pub pieces : P → List Piece
   pub AreInRange : P → Type 0
@@ -45,32 +43,22 @@ of_line (Var name domain) = Some (Variable name domain)
 of_line (Add name shape) = Some (Constraint name shape)
 of_line _ = None
 
-abbrev pub is_some_lead : (List ℕ → Bool) → Option (List ℕ) → Bool
-is_some_lead is_lead None = false
-is_some_lead is_lead (Some word) = is_lead word
-
--- the token in front is the first word of a phrase
-unfoldable pub begins_phrase : (List ℕ → Bool) → List Lexeme → Bool
-begins_phrase is_lead tokens = is_some_lead is_lead (front_text Word tokens)
-
 -- the phrase of all tokens of a line
 unfoldable pub phrase_of : {P : Type 0} → (List Lexeme → Reading P) → List Lexeme → Option P
 phrase_of phrase_at tokens = do
   phrase ← phrase_at tokens
   choose (is_empty phrase.1) (Some phrase.0) None
 
--- the pieces begin with the first word of a phrase
-abbrev pub is_led : (List ℕ → Bool) → List Piece → Bool
-is_led is_lead (Keyword w ∷ ps) = is_lead w
-is_led is_lead ps = false
+-- a word of the language stands in front
+abbrev pub is_worded : List Piece → Bool
+is_worded (Keyword w ∷ ps) = true
+is_worded ps = false
 
--- phrases are read as they are spelled, begin with words of their own, and none is a form of a session
+-- phrases are read as they are spelled, begin with words, and none is a form of a session
 pub record ArePhrases {P : Type 0} (phrases : Phrases P) : Type 0 where
   pub takes : (tokens : List Lexeme) (x : P × List Lexeme) → phrases.phrase_at tokens ≡ Some x → is_empty x.1 ≡ true
       → Spells tokens (phrases.pieces x.0) × phrases.AreInRange x.0
   pub again : (tokens : List Lexeme) (phrase : P) → Spells tokens (phrases.pieces phrase) → phrases.AreInRange phrase
       → phrase_of phrases.phrase_at tokens ≡ Some phrase
-  pub led : (phrase : P) → is_led phrases.is_lead (phrases.pieces phrase) ≡ true
+  pub worded : (phrase : P) → is_worded (phrases.pieces phrase) ≡ true
   pub no_form : (tokens : List Lexeme) (phrase : P) → Spells tokens (phrases.pieces phrase) → form_at tokens ≡ None
-  pub no_var : phrases.is_lead (codes "var") ≡ false
-  pub no_add : phrases.is_lead (codes "add") ≡ false

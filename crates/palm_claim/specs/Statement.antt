@@ -5,7 +5,7 @@ use Rattle.palm_read.specs.Bounds.{IsFromOneTo}
 use Rattle.palm_read.specs.Piece.{Piece, Keyword, Named, Integer, Natural}
 use Rattle.palm_claim.specs.Phrases as of_texts
 use Rattle.palm_claim.specs.Phrases.{Phrases, header_pieces}
-use Rattle.palm_claim.specs.Reader.{is_lead, phrase_at}
+use Rattle.palm_claim.specs.Reader.{phrase_at}
 use Rattle.palm_claim.specs.declared.statement.CertificatePhrase.{CertificatePhrase}
 use Rattle.palm_claim.specs.declared.statement.CertificatePhrase.TheVariants.{Header, Step, ValueClaim, ConflictClaim, End}
 use Rattle.palm_claim.specs.declared.statement.Statement.{Statement}
@@ -31,6 +31,12 @@ value_claim_pieces name value = Keyword (codes "claim") ∷ Named name ∷ Integ
 abbrev pub conflict_claim_pieces : List ℕ → List Piece
 conflict_claim_pieces name = Keyword (codes "claim") ∷ Keyword (codes "conflict") ∷ Named name ∷ []
 
+-- the numbers of the phrase are in their ranges
+abbrev pub AreInRange : CertificatePhrase → Type 0
+AreInRange (Step name value by reasons) = IsValue value × All IsStepNumber reasons
+AreInRange (ValueClaim name value) = IsValue value
+AreInRange _ = ⊤
+
 -- the pieces that the phrase is written with
 abbrev pub phrase_pieces : CertificatePhrase → List Piece
 phrase_pieces Header = header_pieces (codes "cert")
@@ -39,15 +45,9 @@ phrase_pieces (ValueClaim name value) = value_claim_pieces name value
 phrase_pieces (ConflictClaim name) = conflict_claim_pieces name
 phrase_pieces End = Keyword (codes "end") ∷ []
 
--- the numbers of the phrase are in their ranges
-abbrev pub AreInRange : CertificatePhrase → Type 0
-AreInRange (Step name value by reasons) = IsValue value × All IsStepNumber reasons
-AreInRange (ValueClaim name value) = IsValue value
-AreInRange _ = ⊤
-
 -- the phrases of certificates
 abbrev pub phrases : Phrases CertificatePhrase
-phrases = record { is_lead = is_lead; phrase_at = phrase_at; pieces = phrase_pieces; AreInRange = AreInRange }
+phrases = record { phrase_at = phrase_at; pieces = phrase_pieces; AreInRange = AreInRange }
 
 -- what a line says
 abbrev pub Says : List ℕ → Statement CertificatePhrase → Type 0

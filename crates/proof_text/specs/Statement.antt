@@ -10,7 +10,7 @@ use Rattle.palm_claim.specs.declared.ground.Ground.{Ground}
 use Rattle.palm_claim.specs.declared.ground.Ground.TheVariants.{By, Assumed, OfLemma}
 use Rattle.proof_text.specs.declared.statement.NamedPair.{NamedPair}
 use Rattle.palm_claim.specs.declared.statement.Statement.{Statement}
-use Rattle.proof_text.specs.Reader.{is_lead, phrase_at}
+use Rattle.proof_text.specs.Reader.{phrase_at}
 use Rattle.proof_text.specs.declared.statement.ProofPhrase.{ProofPhrase}
 use Rattle.proof_text.specs.declared.statement.ProofPhrase.TheVariants.{Header, Lemma, Step, Wipe, Users, End}
 
@@ -40,15 +40,6 @@ wipe_pieces name = Keyword (codes "wipe") ∷ Named name ∷ []
 abbrev pub users_pieces : List (List ℕ) → List Piece
 users_pieces names = Keyword (codes "none") ∷ map Named names
 
--- the pieces that the phrase is written with
-abbrev pub phrase_pieces : ProofPhrase → List Piece
-phrase_pieces Header = header_pieces (codes "proof")
-phrase_pieces (Lemma pairs) = lemma_pieces pairs
-phrase_pieces (Step name value why) = step_pieces name value why
-phrase_pieces (Wipe name) = wipe_pieces name
-phrase_pieces (Users names) = users_pieces names
-phrase_pieces End = Keyword (codes "end") ∷ []
-
 -- a number that may stand behind `lemma`: one of 64 bits
 abbrev pub IsLemmaNumber : ℕ → Type 0
 IsLemmaNumber k = IsFromOneTo 18446744073709551615 k
@@ -65,9 +56,18 @@ AreInRange (Lemma pairs) = All (λ p. IsValue p.value) pairs
 AreInRange (Step name value why) = IsValue value × IsGroundInRange why
 AreInRange _ = ⊤
 
+-- the pieces that the phrase is written with
+abbrev pub phrase_pieces : ProofPhrase → List Piece
+phrase_pieces Header = header_pieces (codes "proof")
+phrase_pieces (Lemma pairs) = lemma_pieces pairs
+phrase_pieces (Step name value why) = step_pieces name value why
+phrase_pieces (Wipe name) = wipe_pieces name
+phrase_pieces (Users names) = users_pieces names
+phrase_pieces End = Keyword (codes "end") ∷ []
+
 -- the phrases of proofs
 abbrev pub phrases : Phrases ProofPhrase
-phrases = record { is_lead = is_lead; phrase_at = phrase_at; pieces = phrase_pieces; AreInRange = AreInRange }
+phrases = record { phrase_at = phrase_at; pieces = phrase_pieces; AreInRange = AreInRange }
 
 -- what a line says
 abbrev pub Says : List ℕ → Statement ProofPhrase → Type 0

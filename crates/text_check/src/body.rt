@@ -43,10 +43,6 @@ pub trait Body: Sized + Drop {
     /// What holds of it between lines.
     ghost keeps: { Contents → Self → Type 0 };
 
-    /// Whether a line that begins with this word is read as a phrase.
-    fn is_lead(word: &[u8]) -> bool
-        ensures { result ≡ own.phrases.is_lead word.now };
-
     /// Reads a phrase from the front of the tokens.
     fn read(cursor: &mut Cursor<'_>, alloc: Global) -> Result<Self::Phrase, LineError>
         ensures { Gives (λ phrase. phrase) result cursor.new (own.phrases.phrase_at cursor.old) };

@@ -12,15 +12,15 @@ use Rattle.palm_read.specs.Piece.{Piece, Keyword, Natural, Spells, numeral, word
 use Rattle.palm_read.specs.Reader.Lines.{header_at as session_header_at, numbered_at, bare_at, search_form_at, line_at, form_at}
 use Rattle.palm_read.specs.Reader.Steps.{Reading, and_then, when, choose, is_name, front_text, token_at, behind, keyword_at, name_at, natural_at, integer_at}
 use Rattle.palm_read.specs.Token.{Lexeme}
-use Rattle.palm_read.proofs.cited.Begins.{Begins, over, begins_over, begins_from_spells, by_digits, by_integer, by_keyword, by_mark, by_name, by_numeral, integer_first, keyword_first, mark_first, name_first, natural_first, numeral_first}
+use Rattle.palm_read.proofs.cited.Begins.{Begins, over, begins_over, by_digits, by_integer, by_keyword, by_mark, by_name, by_numeral, integer_first, keyword_first, mark_first, name_first, natural_first, numeral_first}
 use Rattle.palm_read.proofs.cited.Front.{Starts, and_then_some, when_some, guard_some, same_text, token_at-cons, name_at-cons, integer_at-starts}
 use Rattle.palm_read.proofs.cited.LineForms.{conflict_word}
 use Rattle.palm_read.proofs.cited.Many.{IsItem, many_at_takes, many_at_again}
 use Rattle.palm_read.proofs.cited.Names.{moved, not_none, not_some, same_item, same_rest, starts_no_name}
-use Rattle.palm_claim.specs.Reader.{is_number, is_value, value_at, next_number, has_some, numbers_at, reasons_at, step_at, claim_at, header_at, is_lead, phrase_at}
+use Rattle.palm_claim.specs.Reader.{is_number, is_value, value_at, next_number, has_some, numbers_at, reasons_at, step_at, claim_at, header_at, phrase_at}
 use Rattle.palm_claim.specs.Statement.{phrases, phrase_pieces, reasons_pieces, IsStepNumber, AreInRange}
-use Rattle.palm_claim.specs.Phrases.{ArePhrases, header_of, header_pieces, is_led}
-use Rattle.palm_claim.proofs.cited.Saying.{Taken, ended_phrase, taken_as, taken_spelled}
+use Rattle.palm_claim.specs.Phrases.{ArePhrases, header_of, header_pieces, is_worded}
+use Rattle.palm_claim.proofs.cited.Saying.{Taken, by_pieces, taken_as}
 use Rattle.palm_claim.specs.declared.statement.CertificatePhrase.{CertificatePhrase}
 use Rattle.palm_claim.specs.declared.statement.CertificatePhrase.TheVariants.{Header, Step, ValueClaim, ConflictClaim, End}
 
@@ -258,17 +258,9 @@ no_form tokens (ValueClaim name value) b = rw (keyword_first b).1 refl
 no_form tokens (ConflictClaim name) b = rw (keyword_first b).1 refl
 no_form tokens End b = rw (keyword_first b).1 refl
 
--- each begins with a word of its own
-led : (s : CertificatePhrase) → is_led is_lead (phrase_pieces s) ≡ true
-led End = refl
-led _ = refl
+worded : (s : CertificatePhrase) → is_worded (phrase_pieces s) ≡ true
+worded End = refl
+worded _ = refl
 
 pub are_phrases : ArePhrases phrases
-are_phrases = record {
-  takes = λ tokens x e last. taken_spelled phrase_pieces AreInRange tokens x (phrase_takes tokens x e) last;
-  again = λ tokens s h range. ended_phrase phrase_at tokens s (phrase_again tokens s (begins_from_spells (phrase_pieces s) tokens h) range);
-  led = led;
-  no_form = λ tokens s h. no_form tokens s (begins_from_spells (phrase_pieces s) tokens h);
-  no_var = refl;
-  no_add = refl;
-}
+are_phrases = by_pieces phrases phrase_takes phrase_again worded no_form

@@ -7,14 +7,14 @@ use Rattle.palm_read.specs.Reader.Lines.{header_at as session_header_at, bare_at
 use Rattle.palm_read.specs.Reader.Steps.{Reading, and_then, when, choose, front_text, token_at, behind, integer_at, keyword_at, name_at, natural_at}
 use Rattle.palm_read.specs.Token.{Lexeme}
 use Rattle.palm_read.proofs.cited.Names.{end_stops_names, moved, names_again, names_takes, not_none, not_some, same_item, same_rest}
-use Rattle.palm_read.proofs.cited.Begins.{Begins, over, begins_over, begins_from_spells, by_integer, by_keyword, by_mark, by_name, integer_first, keyword_first, mark_first, name_first}
+use Rattle.palm_read.proofs.cited.Begins.{Begins, over, begins_over, by_integer, by_keyword, by_mark, by_name, integer_first, keyword_first, mark_first, name_first}
 use Rattle.palm_read.proofs.cited.Front.{and_then_some, when_some, behind-cons, name_at-cons}
 use Rattle.palm_read.proofs.cited.Many.{IsItem, many_at_takes, many_at_again}
-use Rattle.palm_claim.specs.Phrases.{ArePhrases, is_led}
+use Rattle.palm_claim.specs.Phrases.{ArePhrases, is_worded}
 use Rattle.palm_claim.specs.Reader.{header_at}
 use Rattle.palm_claim.proofs.cited.Phrases.{header_takes, header_tokens, value_again, value_takes}
-use Rattle.palm_claim.proofs.cited.Saying.{Taken, ended_phrase, taken_as, taken_spelled}
-use Rattle.proof_text.specs.Reader.{is_lead, lemma_at, next_pair, phrase_at, step_at, users_at, wipe_at}
+use Rattle.palm_claim.proofs.cited.Saying.{Taken, by_pieces, taken_as}
+use Rattle.proof_text.specs.Reader.{lemma_at, next_pair, phrase_at, step_at, users_at, wipe_at}
 use Rattle.proof_text.specs.Statement.{AreInRange, pair_pieces, phrase_pieces, phrases}
 use Rattle.proof_text.specs.declared.statement.NamedPair.{NamedPair}
 use Rattle.proof_text.specs.declared.statement.ProofPhrase.{ProofPhrase}
@@ -150,17 +150,9 @@ no_form tokens (Wipe name) b = rw (keyword_first b).1 refl
 no_form tokens (Users names) b = rw (keyword_first b).1 refl
 no_form tokens End b = rw (keyword_first b).1 refl
 
--- each begins with a word of its own
-led : (s : ProofPhrase) → is_led is_lead (phrase_pieces s) ≡ true
-led End = refl
-led _ = refl
+worded : (s : ProofPhrase) → is_worded (phrase_pieces s) ≡ true
+worded End = refl
+worded _ = refl
 
 pub are_phrases : ArePhrases phrases
-are_phrases = record {
-  takes = λ tokens x e last. taken_spelled phrase_pieces AreInRange tokens x (phrase_takes tokens x e) last;
-  again = λ tokens s h range. ended_phrase phrase_at tokens s (phrase_again tokens s (begins_from_spells (phrase_pieces s) tokens h) range);
-  led = led;
-  no_form = λ tokens s h. no_form tokens s (begins_from_spells (phrase_pieces s) tokens h);
-  no_var = refl;
-  no_add = refl;
-}
+are_phrases = by_pieces phrases phrase_takes phrase_again worded no_form
