@@ -7,7 +7,7 @@ use Rattle.std.proofs.lemmas.List.Elements.{All-contains, Contains-push_cases}
 use Rattle.palm_base.specs.First.{IsNone}
 use Rattle.palm_base.specs.declared.terms.Pair.{Pair}
 use Rattle.palm_base.proofs.cited.Members.{member_nil, member_here, member_map, member_unmap}
-use Rattle.palm_book.specs.Book.{Contents, initial_of}
+use Rattle.palm_book.specs.Book.{Contents, initial_of, with_listed, with_variable}
 use Rattle.palm_book.specs.declared.book.BookCon.{BookCon}
 use Rattle.palm_book.proofs.cited.Any.{any_member}
 use Rattle.palm_model.specs.Closure.{Explains, IsConflict, IsGreatest}
@@ -17,7 +17,7 @@ use Rattle.palm_model.proofs.cited.Without.{has_without, pair_of}
 use Rattle.palm_laws.proofs.cited.Solutions.{explained_missing}
 use Rattle.palm_read.specs.Domain.{values_in}
 use Rattle.palm_claim.specs.Claim.{HoldsIn, IsExplained, IsOver, IsOverItsBook, constraints_of}
-use Rattle.palm_claim.specs.Draft.{Draft, MayList, blank, with_constraint, with_step, with_variable}
+use Rattle.palm_claim.specs.Draft.{Draft, MayList, blank, books, with_step}
 use Rattle.palm_claim.specs.Own as of_texts
 use Rattle.palm_claim.specs.Statement.{IsStepNumber, Says}
 use Rattle.palm_claim.specs.Step.{IsReached, IsRight, pair_at, pairs_at}
@@ -112,11 +112,11 @@ keeps_leads d e line (Phrase Header) keeps says none leads =
 keeps_leads d e line (Variable name domain) keeps says none leads =
     let stands = settled (is_declaring d.stage) none.0 in
     let proved : d.proved ≡ [] = subst (λ s. AtStage s d) stands keeps.stage in
-    let next = with_variable d name (values_in domain) in
+    let next = books.declared d (with_variable d.book name (values_in domain)) in
     subst Keeps (sym leads) (keeps_none next proved (subst (λ s. AtStage s next) (sym stands) proved))
 keeps_leads d e line (Constraint name shape) keeps says none leads =
     let proved = none_proved d.stage d none.0 keeps.stage in
-    subst Keeps (sym leads.2) (keeps_none (with_constraint d name leads.0) proved proved)
+    subst Keeps (sym leads.2) (keeps_none (books.listed d (with_listed d.book name leads.0)) proved proved)
 keeps_leads d e line (Phrase (Step name value by reasons)) keeps says none leads =
     let pair : Pair = leads.0 in
     let members = reason_member d.proved reasons says.2.1 none.1.1.1.0 in

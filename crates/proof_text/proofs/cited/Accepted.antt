@@ -8,7 +8,7 @@ use Rattle.palm_base.specs.First.{IsNone}
 use Rattle.palm_base.specs.declared.terms.Pair.{Pair}
 use Rattle.palm_base.specs.declared.terms.Cid.{Cid}
 use Rattle.palm_base.proofs.cited.Members.{member_cases, member_get, member_nil}
-use Rattle.palm_book.specs.Book.{BookVar, Contents, HasConstraint, IsUser, initial_of, listed}
+use Rattle.palm_book.specs.Book.{BookVar, Contents, HasConstraint, IsUser, initial_of, listed, with_listed, with_variable}
 use Rattle.palm_book.specs.declared.book.BookCon.{BookCon}
 use Rattle.palm_book.proofs.cited.Naming.{variable_with}
 use Rattle.palm_laws.specs.Declared.{AreDeclared}
@@ -26,7 +26,7 @@ use Rattle.palm_claim.specs.declared.ground.Ground.{Ground}
 use Rattle.palm_claim.specs.declared.ground.Ground.TheVariants.{By, Assumed, OfLemma}
 use Rattle.palm_claim.proofs.cited.Explained.{reason_member}
 use Rattle.palm_claim.proofs.cited.ProvedSteps.{same_constraint}
-use Rattle.proof_text.specs.Draft.{ArePairs, Draft, MayList, Notes, at_stage, blank, given_in, users_of, with_constraint, with_lemma, with_step, with_variable, with_wipe}
+use Rattle.proof_text.specs.Draft.{ArePairs, Draft, MayList, Notes, at_stage, blank, books, given_in, users_of, with_lemma, with_step, with_wipe}
 use Rattle.proof_text.specs.Sound.{IsBacked}
 use Rattle.proof_text.specs.Statement.{IsGroundInRange, Says}
 use Rattle.proof_text.specs.Users.{AreOfTheirBook, AreUsed, IsAmong, by_lemma, by_step}
@@ -186,10 +186,10 @@ pairs_declared variables (n ∷ ns) pairs are p m = elim (member_cases are.0 are
 ]
 
 -- before the first lemma, declarations keep to it
-keeps_variable : (d : Draft) (name : List ℕ) (values : List ℤ) → Keeps d → d.stage ≡ Declaring → Keeps (with_variable d name values)
+keeps_variable : (d : Draft) (name : List ℕ) (values : List ℤ) → Keeps d → d.stage ≡ Declaring → Keeps (books.declared d (with_variable d.book name values))
 keeps_variable d name values keeps stands =
     let none : d.lemmas ≡ [] = subst (λ s. AtStage s d) stands keeps.stage in
-    let next = with_variable d name values in
+    let next = books.declared d (with_variable d.book name values) in
     let longer = length-append d.book.variables (record { name = name; values = values } ∷ []) in
     record {
       over = λ c x m k. let lt = keeps.over c x m k in omega (arith, lt, longer);
@@ -198,10 +198,10 @@ keeps_variable d name values keeps stands =
       stage = subst (λ s. AtStage s next) (sym stands) none;
     }
 
-keeps_constraint : (d : Draft) (name : List ℕ) (con : Con) → Keeps d → d.lemmas ≡ [] → (HasConstraint d.book name → ⊥) → All (λ x. x < length d.book.variables) (scope con) → Keeps (with_constraint d name con)
+keeps_constraint : (d : Draft) (name : List ℕ) (con : Con) → Keeps d → d.lemmas ≡ [] → (HasConstraint d.book name → ⊥) → All (λ x. x < length d.book.variables) (scope con) → Keeps (books.listed d (with_listed d.book name con))
 keeps_constraint d name con keeps none fresh declared =
     let cs = d.book.constraints in
-    let next = with_constraint d name con in
+    let next = books.listed d (with_listed d.book name con) in
     record {
       over = λ c x m k. elim (Contains-push_cases cs (listed d.book name con) c m) [
         | inl o ↦ keeps.over c x o k
