@@ -22,7 +22,7 @@ use Rattle.palm_claim.proofs.cited.Judged.{has_verdict}
 use Rattle.palm_claim.proofs.cited.Listing.{ArePhrasesKnown, NamesApart, is_known, leads_apart, meets_by_known, none_apart}
 use Rattle.palm_claim.proofs.cited.Phrases.{are_phrases}
 use Rattle.palm_claim.proofs.cited.Unique.{certificates_keep}
-use Rattle.palm_claim.proofs.Stages.{is_declaring, is_unopened}
+use Rattle.palm_claim.proofs.cited.Explained.{is_declaring, is_unopened}
 use Rattle.palm_claim.proofs.cited.Asked.{known_never, settled, variable_known, constraint_known, declared_known, pair_with, right_known, reached_known, asked_of_pair, asked_of_variable}
 
 -- ---- the order of the lines

@@ -2,7 +2,7 @@
 use Rattle.std.proofs.Common.{◌≡◌, ℕ, Some, List, [], ◌∷◌, codes, refl, sym, ap, subst, inl, inr}
 use Rattle.palm_read.specs.declared.tokens.TokenKind.TheVariants.{Digits}
 use Rattle.palm_read.specs.Piece.{Natural, digits_number}
-use Rattle.palm_read.specs.Reader.Steps.{Reading, and_then, when, choose, front_text, token_at, behind, keyword_at}
+use Rattle.palm_read.specs.Reader.Steps.{and_then, when, choose, front_text, token_at, behind, keyword_at}
 use Rattle.palm_read.specs.Token.{Lexeme}
 use Rattle.palm_read.proofs.cited.Begins.{Begins, over, begins_over, by_digits, by_keyword, by_name, keyword_first, name_first, natural_first}
 use Rattle.palm_read.proofs.cited.Front.{and_then_some, when_some, guard_some, token_at-cons, name_at-cons}

@@ -40,7 +40,7 @@ use Rattle.proof_text.specs.declared.verdict.ProofVerdict.{ProofVerdict}
 use Rattle.proof_text.proofs.cited.Phrases.{are_phrases}
 use Rattle.proof_text.proofs.cited.Unique.{proofs_keep}
 use Rattle.proof_text.proofs.cited.Using.{AreEarlier, IsUpTo, earlier_more, has_picked, none_earlier, picked_once, up_to_more, uses_known}
-use Rattle.proof_text.proofs.Stages.{is_declaring, is_reasoning, is_unopened, is_wiped}
+use Rattle.proof_text.proofs.cited.Accepted.{stage_known}
 
 -- ---- the order of the lines
 
@@ -50,14 +50,14 @@ listing_known Listing = inl tt
 listing_known _ = known_never
 
 follow_known : (stage : Stage) (s : ProofPhrase) → Known (MayFollow stage s)
-follow_known stage Header = is_unopened stage
+follow_known stage Header = (stage_known stage).0
 follow_known Declaring (LemmaLine named) = inl tt
 follow_known Listing (LemmaLine named) = inl tt
 follow_known Wiped (LemmaLine named) = inl tt
 follow_known _ (LemmaLine named) = known_never
-follow_known stage (Step name value ground) = is_reasoning stage
-follow_known stage (Wipe name) = is_reasoning stage
-follow_known stage (Users names) = is_wiped stage
+follow_known stage (Step name value ground) = (stage_known stage).2
+follow_known stage (Wipe name) = (stage_known stage).2
+follow_known stage (Users names) = (stage_known stage).3
 follow_known (Told users) End = inl tt
 follow_known _ End = known_never
 
@@ -249,7 +249,7 @@ leads_on d End keeps none = let users = told_end d.stage none.0 in (at_stage d (
 
 phrases_known : ArePhrasesKnown of_proofs Keeps
 phrases_known = record {
-  declares = λ d. is_declaring d.stage;
+  declares = λ d. (stage_known d.stage).1;
   lists = λ d. listing_known d.stage;
   follows = λ d s. follow_known d.stage s;
   meets = meets_known;

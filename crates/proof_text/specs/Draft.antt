@@ -1,5 +1,5 @@
 -- What the lines of a proof have said so far, which lines may follow, and what each adds.
-use Rattle.std.specs.Prelude.{◌≡◌, ℕ, ℤ, List, [], ◌∷◌, ◌++◌, map, Contains, ⊤}
+use Rattle.std.specs.Prelude.{◌≡◌, List, [], ◌∷◌, ◌++◌, map, Contains, ⊤}
 use Rattle.palm_base.specs.declared.terms.Pair.{Pair}
 use Rattle.palm_base.specs.declared.terms.Cid.{Cid}
 use Rattle.palm_base.specs.declared.terms.Cid.TheVariants.{User}
@@ -69,6 +69,7 @@ MayFollow stage (Users names) = stage ≡ Wiped
 MayFollow (Told users) End = ⊤
 MayFollow stage End = ⊥
 
+-- and the draft decides by its stage
 abbrev pub order : Order Draft ProofPhrase
 order = record {
   MayDeclare = λ d. d.stage ≡ Declaring;
@@ -76,7 +77,7 @@ order = record {
   MayFollow = λ d phrase. MayFollow d.stage phrase;
 }
 
--- ---- what a line adds
+-- ---- what is behind a line
 
 abbrev pub with_lemma : Draft → List Pair → Draft
 with_lemma d pairs = record d { stage = Reasoning; begun = unproved pairs; proved = [] }

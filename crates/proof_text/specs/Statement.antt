@@ -56,7 +56,7 @@ AreInRange (Lemma pairs) = All (λ p. IsValue p.value) pairs
 AreInRange (Step name value why) = IsValue value × IsGroundInRange why
 AreInRange _ = ⊤
 
--- the pieces that the phrase is written with
+-- what each phrase is written with, one piece after another
 abbrev pub phrase_pieces : ProofPhrase → List Piece
 phrase_pieces Header = header_pieces (codes "proof")
 phrase_pieces (Lemma pairs) = lemma_pieces pairs
@@ -65,10 +65,10 @@ phrase_pieces (Wipe name) = wipe_pieces name
 phrase_pieces (Users names) = users_pieces names
 phrase_pieces End = Keyword (codes "end") ∷ []
 
--- the phrases of proofs
+-- proofs are texts with these phrases
 abbrev pub phrases : Phrases ProofPhrase
 phrases = record { phrase_at = phrase_at; pieces = phrase_pieces; AreInRange = AreInRange }
 
--- what a line says
+-- the line says this
 abbrev pub Says : List ℕ → Statement ProofPhrase → Type 0
 Says line statement = of_texts.Says phrases line statement

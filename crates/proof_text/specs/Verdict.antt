@@ -79,23 +79,23 @@ MeetsPhrase d phrase cause = MeetsBy IsMisdeclared HasUnproved IsNotRight IsNotR
 
 -- ---- the text
 
--- the verdict where the lines have ended, and n is the number of a next one
+-- where no line is left and a next one would be the n-th, a proof whose end was read is accepted
 abbrev pub ending : Stage → Contents → ℕ → ProofVerdict
 ending (Closed users) book n = Accepted book users
 ending stage book n = Refused n NotReached
 
--- what is the own of proofs among all such texts
+-- what proofs have that other texts with variables and constraints do not
 abbrev pub of_proofs : Own Draft ProofPhrase ProofVerdict
 of_proofs = own_by phrases order books MeetsPhrase Leads (λ d n. ending d.stage d.book n) (λ n cause. Refused n cause)
 
--- proofs
+-- their family
 abbrev pub proofs : Family Draft (Statement ProofPhrase) ProofVerdict
 proofs = family_of of_proofs
 
--- the condition of a cause, of what a line says
+-- what a line says meets a cause, or does not
 abbrev pub Meets : Draft → Statement ProofPhrase → Cause → Type 0
 Meets d statement cause = of_texts.Meets of_proofs d statement cause
 
--- the verdict on a text
+-- this is the verdict on the bytes
 abbrev pub IsVerdict : List ℕ → ProofVerdict → Type 0
 IsVerdict bytes verdict = IsVerdictFrom proofs blank bytes verdict

@@ -11,7 +11,7 @@ ghost use Rattle.text_check.specs.Kept.{AreKept};
 
 use palm_base::NoMemory;
 use palm_book::Book;
-use palm_claim::{Cause, Statement};
+use palm_claim::Cause;
 use palm_listed::Listed;
 use palm_read::{Cursor, LineError};
 use std::alloc::Global;
@@ -52,9 +52,17 @@ pub trait Body: Sized + Drop {
         ensures blank { draft (record { variables = []; constraints = [] }) result ≡ blank }
         ensures kept { keeps (record { variables = []; constraints = [] }) result };
 
-    /// Whether a line that says this may stand behind the lines so far.
-    fn may_stand(&self, statement: &Statement<Self::Phrase>) -> bool
-        ensures { (book : Contents) → Tells result (own.MayStand (draft book self.now) statement.now) };
+    /// Whether a variable may stand behind the lines so far.
+    fn may_declare(&self) -> bool
+        ensures { (book : Contents) → Tells result (own.MayDeclare (draft book self.now)) };
+
+    /// Whether a constraint may.
+    fn may_list(&self) -> bool
+        ensures { (book : Contents) → Tells result (own.MayList (draft book self.now)) };
+
+    /// Whether the phrase may.
+    fn may_follow(&self, phrase: &Self::Phrase) -> bool
+        ensures { (book : Contents) → Tells result (own.MayFollow (draft book self.now) phrase.now) };
 
     /// Goes on behind a variable.
     fn declared(&mut self) -> Result<(), NoMemory>
@@ -74,7 +82,7 @@ pub trait Body: Sized + Drop {
         listed: &mut Listed,
         phrase: Self::Phrase,
     ) -> Result<Option<Cause>, NoMemory>
-        requires stands { own.MayStand (draft listed.old.book self.old) (Statement.Phrase phrase) }
+        requires stands { own.MayFollow (draft listed.old.book self.old) phrase }
         requires range { own.phrases.AreInRange phrase }
         requires kept { AreKept keeps listed.old self.old }
         ensures takes { IfOk result (λ cause. TakesStatement (family_of own) (draft listed.old.book self.old) (Statement.Phrase phrase) cause

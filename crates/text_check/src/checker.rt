@@ -49,20 +49,15 @@ impl<B: Body> Checker<B> {
         let Some(reading) = read_statement::<B>(self.alloc, line)? else {
             return Ok(Some(Cause::Malformed));
         };
-        if !self.body.may_stand(&reading.statement) {
-            return Ok(Some(Cause::Malformed));
-        }
         self.hear(reading.statement, reading.is_beyond)
     }
 
-    /// Takes what a line says that may stand there, or answers its first cause. It is told whether the line breaks a limit
-    /// by itself.
+    /// Takes what a line says, or answers its first cause. It is told whether the line breaks a limit by itself.
     fn hear(
         &mut self,
         statement: Statement<B::Phrase>,
         is_beyond: bool,
     ) -> Result<Option<Cause>, NoMemory>
-        requires stands { B.own.MayStand (draft_of B.draft self.old) statement }
         requires sound { IsSoundStatement B.own.phrases statement }
         requires beyond { Tells is_beyond (IsBeyondAlone statement) }
         requires kept { IsChecker B.keeps self.old }
@@ -73,7 +68,10 @@ impl<B: Body> Checker<B> {
             Statement::Comment => Ok(None),
             Statement::Variable { name, domain } => self.declare(name, domain, is_beyond),
             Statement::Constraint { name, shape } => self.list(name, shape, is_beyond),
-            Statement::Phrase(phrase) => self.body.take(self.alloc, &mut self.listed, phrase),
+            Statement::Phrase(phrase) if self.body.may_follow(&phrase) => {
+                self.body.take(self.alloc, &mut self.listed, phrase)
+            }
+            Statement::Phrase(_) => Ok(Some(Cause::Malformed)),
         }
     }
 
@@ -84,7 +82,6 @@ impl<B: Body> Checker<B> {
         domain: DomainText,
         is_beyond: bool,
     ) -> Result<Option<Cause>, NoMemory>
-        requires stands { B.own.MayStand (draft_of B.draft self.old) (statements.Variable name domain) }
         requires sound { IsSound (Var name domain) }
         requires beyond { Tells is_beyond (IsBeyond (Var name domain)) }
         requires kept { IsChecker B.keeps self.old }
@@ -92,6 +89,9 @@ impl<B: Body> Checker<B> {
             (draft_of B.draft self.new)) }
         ensures kept { OnOk result (IsChecker B.keeps self.new) }
     {
+        if !self.body.may_declare() {
+            return Ok(Some(Cause::Malformed));
+        }
         if self.listed.book.has_variable(&name) {
             return Ok(Some(Cause::Misdeclared));
         }
@@ -106,7 +106,6 @@ impl<B: Body> Checker<B> {
 
     /// Takes a constraint.
     fn list(&mut self, name: Name, shape: Shape, is_beyond: bool) -> Result<Option<Cause>, NoMemory>
-        requires stands { B.own.MayStand (draft_of B.draft self.old) (statements.Constraint name shape) }
         requires sound { IsSound (Add name shape) }
         requires beyond { Tells is_beyond (IsBeyond (Add name shape)) }
         requires kept { IsChecker B.keeps self.old }
@@ -114,6 +113,9 @@ impl<B: Body> Checker<B> {
             (draft_of B.draft self.new)) }
         ensures kept { OnOk result (IsChecker B.keeps self.new) }
     {
+        if !self.body.may_list() {
+            return Ok(Some(Cause::Malformed));
+        }
         if self.listed.book.has_constraint(&name) {
             return Ok(Some(Cause::Misdeclared));
         }

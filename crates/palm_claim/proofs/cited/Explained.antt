@@ -6,7 +6,7 @@ use Rattle.std.proofs.lemmas.List.{get_or_default, length-map}
 use Rattle.std.proofs.lemmas.List.Elements.{All-contains, Contains-push_cases}
 use Rattle.palm_base.specs.First.{IsNone}
 use Rattle.palm_base.specs.declared.terms.Pair.{Pair}
-use Rattle.palm_base.proofs.cited.Members.{member_nil, member_here, member_map, member_unmap}
+use Rattle.palm_base.proofs.cited.Members.{Known, member_nil, member_here, member_map, member_unmap}
 use Rattle.palm_book.specs.Book.{Contents, initial_of, with_listed, with_variable}
 use Rattle.palm_book.specs.declared.book.BookCon.{BookCon}
 use Rattle.palm_book.proofs.cited.Any.{any_member}
@@ -24,7 +24,7 @@ use Rattle.palm_claim.specs.Step.{IsReached, IsRight, pair_at, pairs_at}
 use Rattle.palm_claim.specs.Judging.{Judges, in_order}
 use Rattle.palm_claim.specs.Verdict.{IsVerdict, Meets, certificates, ending, of_certificates}
 use Rattle.palm_claim.specs.declared.statement.Stage.{Stage}
-use Rattle.palm_claim.specs.declared.statement.Stage.TheVariants.{Declaring, Listing, Proving, Claimed, Closed}
+use Rattle.palm_claim.specs.declared.statement.Stage.TheVariants.{Unopened, Declaring, Listing, Proving, Claimed, Closed}
 use Rattle.palm_claim.specs.declared.statement.CertificatePhrase.{CertificatePhrase}
 use Rattle.palm_claim.specs.declared.statement.CertificatePhrase.TheVariants.{Header, Step, ValueClaim, ConflictClaim, End}
 use Rattle.palm_claim.specs.declared.statement.Statement.{Statement}
@@ -34,7 +34,6 @@ use Rattle.palm_claim.specs.declared.verdict.Claim.TheVariants.{Gone, Conflict}
 use Rattle.palm_claim.specs.declared.verdict.Proved.{Proved}
 use Rattle.palm_claim.specs.declared.verdict.Verdict.{Verdict}
 use Rattle.palm_claim.specs.declared.verdict.Verdict.TheVariants.{Accepted, Refused}
-use Rattle.palm_claim.proofs.Stages.{is_declaring, is_unopened}
 use Rattle.palm_claim.proofs.cited.Asked.{settled}
 
 -- ---- a right step is explained where its reasons are
@@ -69,6 +68,16 @@ right_explained book proved pair by reasons explained right d inside closed has 
     right.lacks.lacks (support_grows d (without (initial_of book) gone) right.lacks.part pair.var pair.value narrow
     (closed right.owner.con right.lacks.part (member_map (λ (c : BookCon). c.con) book.constraints right.owner right.listed)
     right.lacks.is_part pair.var pair.value right.lacks.over has))
+
+-- ---- how far a certificate has come is known
+
+pub is_unopened : (stage : Stage) → Known (stage ≡ Unopened)
+is_unopened Unopened = inl refl
+is_unopened _ = inr (λ e. cc)
+
+pub is_declaring : (stage : Stage) → Known (stage ≡ Declaring)
+is_declaring Declaring = inl refl
+is_declaring _ = inr (λ e. cc)
 
 -- ---- what every draft keeps to
 

@@ -75,6 +75,7 @@ TakenPhrase tokens x = Taken phrase_pieces AreInRange tokens x
 taken : (tokens : List Lexeme) (made x : ProofPhrase × List Lexeme) → ◌≡◌ {A = Reading ProofPhrase} (Some made) (Some x) → TakenPhrase tokens made → TakenPhrase tokens x
 taken = taken_as phrase_pieces AreInRange
 
+-- a step, its pair and its ground
 step_takes : (tokens back : List Lexeme) (x : ProofPhrase × List Lexeme) → keyword_at (codes "step") tokens ≡ Some back → step_at back ≡ Some x → TakenPhrase tokens x
 unfolding step_at
 step_takes tokens back x k e =
@@ -85,34 +86,22 @@ step_takes tokens back x k e =
     let g = ground_takes value.0.1 ground.0 ground.1 in
     taken tokens (Step name.0.0 value.0.0 ground.0.0, ground.0.1) x ground.2 (by_keyword k (by_name name.1 (by_integer v.0 g.0)), (v.1, g.1))
 
-lemma_takes : (tokens back : List Lexeme) (x : ProofPhrase × List Lexeme) → keyword_at (codes "lemma") tokens ≡ Some back → lemma_at back ≡ Some x → TakenPhrase tokens x
-unfolding lemma_at
-lemma_takes tokens back x k e =
-    let pairs = and_then_some e in
-    let t = many_at_takes next_pair pair_pieces HasValue pair_item back pairs.0 pairs.1 in
-    taken tokens (Lemma pairs.0.0, pairs.0.1) x pairs.2 (by_keyword k t.0, All-from_recursion HasValue pairs.0.0 t.1)
-
-wipe_takes : (tokens back : List Lexeme) (x : ProofPhrase × List Lexeme) → keyword_at (codes "wipe") tokens ≡ Some back → wipe_at back ≡ Some x → TakenPhrase tokens x
-unfolding wipe_at
-wipe_takes tokens back x k e = let name = and_then_some e in taken tokens (Wipe name.0.0, name.0.1) x name.2 (by_keyword k (by_name name.1 over), tt)
-
-users_takes : (tokens back : List Lexeme) (x : ProofPhrase × List Lexeme) → keyword_at (codes "none") tokens ≡ Some back → users_at back ≡ Some x → TakenPhrase tokens x
-unfolding users_at
-users_takes tokens back x k e =
-    let names = and_then_some e in
-    taken tokens (Users names.0.0, names.0.1) x names.2 (by_keyword k (names_takes 0 back names.0 names.1).0, tt)
-
 phrase_takes : (tokens : List Lexeme) (x : ProofPhrase × List Lexeme) → phrase_at tokens ≡ Some x → TakenPhrase tokens x
-unfolding phrase_at
+unfolding phrase_at lemma_at wipe_at users_at
 phrase_takes tokens x e =
     elim (when_some e) [
       | inl w ↦ step_takes tokens w.0 x w.1 w.2
       | inr u ↦ elim (when_some u.1) [
-        | inl w ↦ lemma_takes tokens w.0 x w.1 w.2
+        | inl w ↦
+            let pairs = and_then_some w.2 in
+            let t = many_at_takes next_pair pair_pieces HasValue pair_item w.0 pairs.0 pairs.1 in
+            taken tokens (Lemma pairs.0.0, pairs.0.1) x pairs.2 (by_keyword w.1 t.0, All-from_recursion HasValue pairs.0.0 t.1)
         | inr v ↦ elim (when_some v.1) [
-          | inl w ↦ wipe_takes tokens w.0 x w.1 w.2
+          | inl w ↦ let name = and_then_some w.2 in taken tokens (Wipe name.0.0, name.0.1) x name.2 (by_keyword w.1 (by_name name.1 over), tt)
           | inr y ↦ elim (when_some y.1) [
-            | inl w ↦ users_takes tokens w.0 x w.1 w.2
+            | inl w ↦
+                let names = and_then_some w.2 in
+                taken tokens (Users names.0.0, names.0.1) x names.2 (by_keyword w.1 (names_takes 0 w.0 names.0 names.1).0, tt)
             | inr z ↦ elim (when_some z.1) [
               | inl w ↦ taken tokens (End, w.0) x w.2 (by_keyword w.1 over, tt)
               | inr w ↦ let rest = and_then_some w.1 in taken tokens (Header, rest.0) x rest.2 (header_takes (codes "proof") tokens rest.0 rest.1, tt)
@@ -140,7 +129,11 @@ phrase_again tokens (Wipe name) b range = let k = keyword_first b in let n = nam
 phrase_again tokens (Users names) b range = let k = keyword_first b in rw (k.1, names_again 0 names k.0 [] (omega arith) k.2 end_stops_names) refl
 phrase_again tokens End b range = let k = keyword_first b in rw (k.1, begins_over k.2) refl
 
--- none is a form of a session
+-- each begins with a word, and none is a form of a session
+worded : (s : ProofPhrase) → is_worded (phrase_pieces s) ≡ true
+worded End = refl
+worded _ = refl
+
 no_form : (tokens : List Lexeme) (s : ProofPhrase) → Begins tokens (phrase_pieces s) [] → form_at tokens ≡ None
 unfolding form_at line_at session_header_at numbered_at search_form_at bare_at integer_at natural_at behind token_at front_text and_then when choose
 no_form tokens Header b = rw (header_tokens (codes "proof") tokens b) refl
@@ -149,10 +142,6 @@ no_form tokens (Step name value ground) b = let k = keyword_first b in rw (k.1, 
 no_form tokens (Wipe name) b = rw (keyword_first b).1 refl
 no_form tokens (Users names) b = rw (keyword_first b).1 refl
 no_form tokens End b = rw (keyword_first b).1 refl
-
-worded : (s : ProofPhrase) → is_worded (phrase_pieces s) ≡ true
-worded End = refl
-worded _ = refl
 
 pub are_phrases : ArePhrases phrases
 are_phrases = by_pieces phrases phrase_takes phrase_again worded no_form
