@@ -1,7 +1,6 @@
 //! What is kept of a proof besides what it lists: how far it has come, the lemmas that are done, and of the lemma begun what it
 //! assumes, what its steps name and the pairs that they proved.
 ghost use Rattle.std.specs.Prelude.{◌≡◌, [], All, IfOk, OnOk};
-ghost use Rattle.palm_base.specs.Tells.{Tells};
 ghost use Rattle.palm_book.specs.Book.{Contents, initial_of};
 ghost use Rattle.palm_claim.specs.Statement.{IsStepNumber};
 ghost use Rattle.palm_claim.specs.declared.ground.Ground.TheVariants as Ground;
@@ -9,23 +8,25 @@ ghost use Rattle.palm_model.specs.Domains.{Has};
 ghost use Rattle.proof_check.specs.Kept.{AssumesOrNot, IsReasoned, IsKept, TakesGround, TakesPhrase, said};
 ghost use Rattle.proof_text.specs.Draft.{MayFollow, with_lemma, with_wipe};
 ghost use Rattle.proof_text.specs.Statement.{IsGroundInRange, IsLemmaNumber};
+ghost use Rattle.proof_text.specs.Users.{AreOfTheirBook};
+ghost use Rattle.proof_text.specs.Verdict.{IsVerdict};
 ghost use Rattle.proof_text.specs.declared.statement.ProofPhrase.TheVariants as phrases;
 ghost use Rattle.proof_text.specs.declared.statement.Stage.TheVariants as Stage;
 
 use crate::assumed::{forget, is_other_assumed, put, value_of};
 use crate::lemmas::{copy_lemma, is_by_others, unproved_lemma};
 use crate::marks::usage;
-use crate::phrases::read_phrase;
+use crate::phrases::{pairs, step};
 use crate::users::{are_listed, are_names, marked_users};
 use palm_base::{NoMemory, Pair, Value};
 use palm_book::Book;
-use palm_claim::{Cause, Ground, Statement};
+use palm_claim::{Cause, Ground};
 use palm_listed::Listed;
 use palm_read::{Cursor, LineError, Name};
 use proof_text::{Lemma, LemmaList, NamedPair, PairList, ProofPhrase, ProofVerdict, Stage};
 use std::alloc::Global;
 use std::mem;
-use text_check::{Body, check_step, check_wiped};
+use text_check::{Body, check_step, check_text, check_wiped, read_header};
 
 /// What is kept of a proof besides what it lists.
 #[derive(Drop)]
@@ -66,17 +67,22 @@ impl Body for ProofBody {
 
     ghost of_book = { λ book body. refl };
 
-    fn is_lead(word: &[u8]) -> bool {
-        word == b"step".as_slice()
-            || word == b"lemma".as_slice()
-            || word == b"wipe".as_slice()
-            || word == b"none".as_slice()
-            || word == b"end".as_slice()
-            || word == b"palm".as_slice()
-    }
-
+    #[tactic(auto, unfolding(proof_text::specs::Reader::phrase_at, proof_text::specs::Reader::lemma_at, proof_text::specs::Reader::wipe_at, proof_text::specs::Reader::users_at, palm_read::specs::Reader::Steps::when, palm_read::specs::Reader::Steps::and_then))]
     fn read(cursor: &mut Cursor<'_>, alloc: Global) -> Result<ProofPhrase, LineError> {
-        read_phrase(cursor, alloc)
+        if cursor.takes_word(b"step") {
+            step(cursor, alloc)
+        } else if cursor.takes_word(b"lemma") {
+            Ok(ProofPhrase::Lemma(pairs(cursor, alloc)?))
+        } else if cursor.takes_word(b"wipe") {
+            Ok(ProofPhrase::Wipe(cursor.owned_name(alloc)?))
+        } else if cursor.takes_word(b"none") {
+            Ok(ProofPhrase::Users(cursor.names(alloc, 0)?))
+        } else if cursor.takes_word(b"end") {
+            Ok(ProofPhrase::End)
+        } else {
+            read_header(cursor, b"proof")?;
+            Ok(ProofPhrase::Header)
+        }
     }
 
     fn new(alloc: Global) -> ProofBody {
@@ -89,12 +95,25 @@ impl Body for ProofBody {
         }
     }
 
-    fn may_stand(&self, statement: &Statement<ProofPhrase>) -> bool {
-        match statement {
-            Statement::Comment => true,
-            Statement::Variable { .. } => matches!(self.stage, Stage::Declaring),
-            Statement::Constraint { .. } => matches!(self.stage, Stage::Declaring | Stage::Listing),
-            Statement::Phrase(phrase) => may_follow(&self.stage, phrase),
+    fn may_declare(&self) -> bool {
+        matches!(self.stage, Stage::Declaring)
+    }
+
+    fn may_list(&self) -> bool {
+        matches!(self.stage, Stage::Declaring | Stage::Listing)
+    }
+
+    fn may_follow(&self, phrase: &ProofPhrase) -> bool {
+        match phrase {
+            ProofPhrase::Header => matches!(self.stage, Stage::Unopened),
+            ProofPhrase::Lemma(_) => {
+                matches!(self.stage, Stage::Declaring | Stage::Listing | Stage::Wiped)
+            }
+            ProofPhrase::Step { .. } | ProofPhrase::Wipe(_) => {
+                matches!(self.stage, Stage::Reasoning)
+            }
+            ProofPhrase::Users(_) => matches!(self.stage, Stage::Wiped),
+            ProofPhrase::End => matches!(self.stage, Stage::Told(_)),
         }
     }
 
@@ -354,15 +373,11 @@ impl ProofBody {
     }
 }
 
-/// Whether the phrase may stand behind the lines so far.
-fn may_follow(stage: &Stage, phrase: &ProofPhrase) -> bool
-    ensures { Tells result (MayFollow stage.now phrase.now) }
+/// The verdict on a text: that it is a proof, and the constraints that it proves to have no solution, or its first line
+/// that has a cause. A text may be of any length.
+pub fn check_proof(alloc: Global, bytes: &[u8]) -> Result<ProofVerdict, NoMemory>
+    ensures verdict { IfOk result (IsVerdict bytes.now) }
+    ensures named { IfOk result AreOfTheirBook }
 {
-    match phrase {
-        ProofPhrase::Header => matches!(stage, Stage::Unopened),
-        ProofPhrase::Lemma(_) => matches!(stage, Stage::Declaring | Stage::Listing | Stage::Wiped),
-        ProofPhrase::Step { .. } | ProofPhrase::Wipe(_) => matches!(stage, Stage::Reasoning),
-        ProofPhrase::Users(_) => matches!(stage, Stage::Wiped),
-        ProofPhrase::End => matches!(stage, Stage::Told(_)),
-    }
+    check_text::<ProofBody>(alloc, bytes)
 }

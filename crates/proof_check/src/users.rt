@@ -14,12 +14,7 @@ use std::alloc::Global;
 pub fn are_listed(book: &Book, names: &[Name]) -> bool
     ensures { Tells result (All (HasConstraint book.now) names.now) }
 {
-    for name in names {
-        if !book.has_constraint(name) {
-            return false;
-        }
-    }
-    true
+    names.iter().all(|name| book.has_constraint(name))
 }
 
 /// Whether the number is marked.
