@@ -15,7 +15,7 @@ use palm_listed::Listed;
 use palm_read::{Cursor, LineError, Name};
 use std::alloc::Global;
 use std::mem;
-use text_check::{Body, check_step, check_text, check_wiped, is_among, read_header};
+use text_check::{Body, FirstCause, check_step, check_text, check_wiped, is_among, read_header};
 
 /// What is kept of a certificate besides what it lists.
 #[derive(Drop)]
@@ -84,7 +84,10 @@ impl Body for CertificateBody {
             CertificatePhrase::Step { .. }
             | CertificatePhrase::ValueClaim { .. }
             | CertificatePhrase::ConflictClaim(_) => {
-                matches!(self.stage, Stage::Declaring | Stage::Listing | Stage::Proving)
+                matches!(
+                    self.stage,
+                    Stage::Declaring | Stage::Listing | Stage::Proving
+                )
             }
             CertificatePhrase::End => matches!(self.stage, Stage::Claimed(_)),
         }
@@ -103,7 +106,7 @@ impl Body for CertificateBody {
         alloc: Global,
         listed: &mut Listed,
         phrase: CertificatePhrase,
-    ) -> Result<Option<Cause>, NoMemory> {
+    ) -> FirstCause {
         match phrase {
             CertificatePhrase::Header => {
                 self.stage = Stage::Declaring;
@@ -152,7 +155,7 @@ impl CertificateBody {
         value: Value,
         by: &Name,
         reasons: &[u32],
-    ) -> Result<Option<Cause>, NoMemory>
+    ) -> FirstCause
         requires stands { IsOpen self.old.stage }
         requires range { All IsStepNumber reasons.now }
         requires kept { IsKept listed.old self.old }

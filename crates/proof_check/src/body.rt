@@ -13,10 +13,10 @@ ghost use Rattle.proof_text.specs.Verdict.{IsVerdict};
 ghost use Rattle.proof_text.specs.declared.statement.ProofPhrase.TheVariants as phrases;
 ghost use Rattle.proof_text.specs.declared.statement.Stage.TheVariants as Stage;
 
-use crate::assumed::{forget, is_other_assumed, put, value_of};
+use crate::assumed::{is_other_assumed, put, value_of};
 use crate::lemmas::{copy_lemma, is_by_others, unproved_lemma};
 use crate::marks::usage;
-use crate::phrases::{pairs, step};
+use crate::phrases::{NamedPairs, step};
 use crate::users::{are_listed, are_names, marked_users};
 use palm_base::{NoMemory, Pair, Value};
 use palm_book::Book;
@@ -26,7 +26,7 @@ use palm_read::{Cursor, LineError, Name};
 use proof_text::{Lemma, LemmaList, NamedPair, PairList, ProofPhrase, ProofVerdict, Stage};
 use std::alloc::Global;
 use std::mem;
-use text_check::{Body, check_step, check_text, check_wiped, read_header};
+use text_check::{Body, FirstCause, check_step, check_text, check_wiped, read_header, read_items};
 
 /// What is kept of a proof besides what it lists.
 #[derive(Drop)]
@@ -36,10 +36,10 @@ pub struct ProofBody {
     lemmas: LemmaList,
     /// The lemma begun: what it assumes, and what its steps name.
     begun: Lemma,
-    /// The pairs of the lemma begun, by their variables.
-    assumed: Vec<Option<Value>>,
     /// The pair that each step of the lemma begun proved.
     proved: Vec<Pair>,
+    /// The pairs of the lemma begun, by their variables.
+    assumed: Vec<Option<Value>>,
 }
 
 impl Body for ProofBody {
@@ -49,30 +49,50 @@ impl Body for ProofBody {
     ghost use Rattle.proof_text.specs.Verdict.{of_proofs};
     ghost use Rattle.std.specs.Prelude.{refl};
 
-    type Phrase = ProofPhrase;
-
-    type Verdict = ProofVerdict;
-
     ghost Text = { drafts.Draft };
-
-    ghost own = { of_proofs };
-
-    ghost blank = { drafts.blank };
 
     ghost draft = { said };
 
-    ghost keeps = { IsReasoned };
-
-    ghost are_phrases = { spelled_phrases };
+    ghost blank = { drafts.blank };
 
     ghost of_book = { λ book body. refl };
+
+    fn new(alloc: Global) -> ProofBody {
+        ProofBody {
+            stage: Stage::Unopened,
+            lemmas: LemmaList::new(alloc),
+            begun: unproved_lemma(alloc, PairList::new(alloc)),
+            proved: Vec::new(alloc),
+            assumed: Vec::new(alloc),
+        }
+    }
+
+    type Verdict = ProofVerdict;
+
+    fn ending(self, book: Book, line: u64) -> ProofVerdict {
+        let ProofBody { stage, .. } = self;
+        match stage {
+            Stage::Closed(users) => ProofVerdict::Accepted { book, users },
+            _ => Self::refused(line, Cause::NotReached),
+        }
+    }
+
+    fn refused(line: u64, cause: Cause) -> ProofVerdict {
+        ProofVerdict::Refused { line, cause }
+    }
+
+    type Phrase = ProofPhrase;
+
+    ghost own = { of_proofs };
+
+    ghost are_phrases = { spelled_phrases };
 
     #[tactic(auto, unfolding(proof_text::specs::Reader::phrase_at, proof_text::specs::Reader::lemma_at, proof_text::specs::Reader::wipe_at, proof_text::specs::Reader::users_at, palm_read::specs::Reader::Steps::when, palm_read::specs::Reader::Steps::and_then))]
     fn read(cursor: &mut Cursor<'_>, alloc: Global) -> Result<ProofPhrase, LineError> {
         if cursor.takes_word(b"step") {
             step(cursor, alloc)
         } else if cursor.takes_word(b"lemma") {
-            Ok(ProofPhrase::Lemma(pairs(cursor, alloc)?))
+            Ok(ProofPhrase::Lemma(read_items::<NamedPairs>(cursor, alloc)?))
         } else if cursor.takes_word(b"wipe") {
             Ok(ProofPhrase::Wipe(cursor.owned_name(alloc)?))
         } else if cursor.takes_word(b"none") {
@@ -83,24 +103,6 @@ impl Body for ProofBody {
             read_header(cursor, b"proof")?;
             Ok(ProofPhrase::Header)
         }
-    }
-
-    fn new(alloc: Global) -> ProofBody {
-        ProofBody {
-            stage: Stage::Unopened,
-            lemmas: LemmaList::new(alloc),
-            begun: unproved_lemma(alloc, PairList::new(alloc)),
-            assumed: Vec::new(alloc),
-            proved: Vec::new(alloc),
-        }
-    }
-
-    fn may_declare(&self) -> bool {
-        matches!(self.stage, Stage::Declaring)
-    }
-
-    fn may_list(&self) -> bool {
-        matches!(self.stage, Stage::Declaring | Stage::Listing)
     }
 
     fn may_follow(&self, phrase: &ProofPhrase) -> bool {
@@ -117,6 +119,16 @@ impl Body for ProofBody {
         }
     }
 
+    fn may_declare(&self) -> bool {
+        matches!(self.stage, Stage::Declaring)
+    }
+
+    fn may_list(&self) -> bool {
+        matches!(self.stage, Stage::Declaring | Stage::Listing)
+    }
+
+    ghost keeps = { IsReasoned };
+
     /// Nothing is assumed for the variable.
     fn declared(&mut self) -> Result<(), NoMemory> {
         self.assumed.push(None)?;
@@ -127,12 +139,7 @@ impl Body for ProofBody {
         self.stage = Stage::Listing;
     }
 
-    fn take(
-        &mut self,
-        alloc: Global,
-        listed: &mut Listed,
-        phrase: ProofPhrase,
-    ) -> Result<Option<Cause>, NoMemory> {
+    fn take(&mut self, alloc: Global, listed: &mut Listed, phrase: ProofPhrase) -> FirstCause {
         match phrase {
             ProofPhrase::Header => {
                 self.stage = Stage::Declaring;
@@ -155,34 +162,17 @@ impl Body for ProofBody {
             }
         }
     }
-
-    fn ending(self, book: Book, line: u64) -> ProofVerdict {
-        let ProofBody { stage, .. } = self;
-        match stage {
-            Stage::Closed(users) => ProofVerdict::Accepted { book, users },
-            _ => Self::refused(line, Cause::NotReached),
-        }
-    }
-
-    fn refused(line: u64, cause: Cause) -> ProofVerdict {
-        ProofVerdict::Refused { line, cause }
-    }
 }
 
 impl ProofBody {
     /// Takes the first line of a lemma.
-    fn begin(
-        &mut self,
-        alloc: Global,
-        listed: &Listed,
-        named: &[NamedPair],
-    ) -> Result<Option<Cause>, NoMemory>
+    fn begin(&mut self, alloc: Global, listed: &Listed, named: &[NamedPair]) -> FirstCause
         requires stands { MayFollow self.old.stage (phrases.Lemma named.now) }
         requires kept { IsKept listed.now self.old }
         ensures takes { IfOk result (λ cause. TakesPhrase (said listed.now.book self.old) (phrases.Lemma named.now) cause (said listed.now.book self.new)) }
         ensures kept { OnOk result (IsKept listed.now self.new) }
     {
-        self.clear(alloc);
+        self.clear(alloc)?;
         for pair in named {
             if !self.assume(listed, &pair.name, pair.value)? {
                 return Ok(Some(Cause::Misdeclared));
@@ -192,16 +182,15 @@ impl ProofBody {
     }
 
     /// Begins a lemma that assumes nothing.
-    fn clear(&mut self, alloc: Global)
-        requires { (book : Contents) × IsReasoned book self.old }
-        ensures begun { (book : Contents)
-            → said book self.new ≡ with_lemma (said book self.old) [] }
-        ensures kept { (book : Contents) → IsReasoned book self.old → IsReasoned book self.new }
+    fn clear(&mut self, alloc: Global) -> Result<(), NoMemory>
+        ensures begun { OnOk result ((book : Contents) → said book self.new ≡ with_lemma (said book self.old) []) }
+        ensures kept { OnOk result ((book : Contents) → IsReasoned book self.old → IsReasoned book self.new) }
     {
-        forget(&mut self.assumed, self.begun.pairs.as_slice());
+        self.assumed = vec![in alloc; None; self.assumed.len()]?;
         self.begun = unproved_lemma(alloc, PairList::new(alloc));
         self.proved.clear();
         self.stage = Stage::Reasoning;
+        Ok(())
     }
 
     /// Assumes the pair with the name and the value too. It must be declared, and nothing be assumed for its variable.
@@ -229,7 +218,7 @@ impl ProofBody {
         name: &Name,
         value: Value,
         basis: &Ground,
-    ) -> Result<Option<Cause>, NoMemory>
+    ) -> FirstCause
         requires stands { self.old.stage ≡ Stage.Reasoning }
         requires range { IsGroundInRange basis.now }
         requires kept { IsKept listed.old self.old }
@@ -257,7 +246,7 @@ impl ProofBody {
         pair: Pair,
         by: &Name,
         reasons: &[u32],
-    ) -> Result<Option<Cause>, NoMemory>
+    ) -> FirstCause
         requires stands { self.old.stage ≡ Stage.Reasoning }
         requires declared { Has (initial_of listed.old.book) pair.var pair.value }
         requires range { All IsStepNumber reasons.now }
@@ -277,7 +266,7 @@ impl ProofBody {
     }
 
     /// Takes a step of a declared pair by what is assumed.
-    fn prove_assumed(&mut self, listed: &Listed, pair: Pair) -> Result<Option<Cause>, NoMemory>
+    fn prove_assumed(&mut self, listed: &Listed, pair: Pair) -> FirstCause
         requires stands { self.old.stage ≡ Stage.Reasoning }
         requires declared { Has (initial_of listed.now.book) pair.var pair.value }
         requires kept { IsKept listed.now self.old }
@@ -293,12 +282,7 @@ impl ProofBody {
     }
 
     /// Takes a step of a declared pair by a lemma.
-    fn prove_of_lemma(
-        &mut self,
-        listed: &Listed,
-        pair: Pair,
-        number: u64,
-    ) -> Result<Option<Cause>, NoMemory>
+    fn prove_of_lemma(&mut self, listed: &Listed, pair: Pair, number: u64) -> FirstCause
         requires stands { self.old.stage ≡ Stage.Reasoning }
         requires declared { Has (initial_of listed.now.book) pair.var pair.value }
         requires range { IsLemmaNumber number }
@@ -319,7 +303,7 @@ impl ProofBody {
     }
 
     /// Takes the wipe of a variable, with which the lemma begun is done.
-    fn wipe(&mut self, listed: &mut Listed, name: &Name) -> Result<Option<Cause>, NoMemory>
+    fn wipe(&mut self, listed: &mut Listed, name: &Name) -> FirstCause
         requires stands { self.old.stage ≡ Stage.Reasoning }
         requires kept { IsKept listed.old self.old }
         ensures takes { IfOk result (λ cause. TakesPhrase (said listed.old.book self.old) (phrases.Wipe name.now) cause (said listed.new.book self.new)) }
@@ -346,12 +330,7 @@ impl ProofBody {
     }
 
     /// Takes the names of the constraints that the last lemma uses.
-    fn tell(
-        &mut self,
-        alloc: Global,
-        listed: &Listed,
-        names: &[Name],
-    ) -> Result<Option<Cause>, NoMemory>
+    fn tell(&mut self, alloc: Global, listed: &Listed, names: &[Name]) -> FirstCause
         requires stands { self.old.stage ≡ Stage.Wiped }
         requires kept { IsKept listed.now self.old }
         ensures takes { IfOk result (λ cause. TakesPhrase (said listed.now.book self.old) (phrases.Users names.now) cause (said listed.now.book self.new)) }

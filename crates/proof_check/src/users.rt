@@ -14,7 +14,12 @@ use std::alloc::Global;
 pub fn are_listed(book: &Book, names: &[Name]) -> bool
     ensures { Tells result (All (HasConstraint book.now) names.now) }
 {
-    names.iter().all(|name| book.has_constraint(name))
+    for name in names {
+        if !book.has_constraint(name) {
+            return false;
+        }
+    }
+    true
 }
 
 /// Whether the number is marked.

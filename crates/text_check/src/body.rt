@@ -16,6 +16,9 @@ use palm_listed::Listed;
 use palm_read::{Cursor, LineError};
 use std::alloc::Global;
 
+/// The first cause of a line, if it has one, unless memory runs out.
+pub type FirstCause = Result<Option<Cause>, NoMemory>;
+
 /// What is kept of a text of one family besides what it lists, and what the phrases of the family are.
 pub trait Body: Sized + Drop {
     ghost use Rattle.palm_book.specs.Book.{Contents};
@@ -76,12 +79,7 @@ pub trait Body: Sized + Drop {
         ensures kept { (book : Contents) (name : List ℕ) (con : Con) → keeps book self.old → keeps (with_listed book name con) self.new };
 
     /// Takes a phrase that may stand there, or answers its first cause.
-    fn take(
-        &mut self,
-        alloc: Global,
-        listed: &mut Listed,
-        phrase: Self::Phrase,
-    ) -> Result<Option<Cause>, NoMemory>
+    fn take(&mut self, alloc: Global, listed: &mut Listed, phrase: Self::Phrase) -> FirstCause
         requires stands { own.MayFollow (draft listed.old.book self.old) phrase }
         requires range { own.phrases.AreInRange phrase }
         requires kept { AreKept keeps listed.old self.old }

@@ -1,5 +1,5 @@
 -- The phrases of certificates: the reader reads just the tokens of one, and none of them is a form of a session.
-use Rattle.std.proofs.Common.{◌≡◌, ℕ, ℤ, pos, ◌-ℤ◌, ◌≤ℤ◌, ◌≤◌, nat_le, int_lt, true, not, Option, Some, None, List, [], ◌∷◌, map, All, codes, refl, sym, ap, ◌∙◌, subst, arith, inl, inr}
+use Rattle.std.proofs.Common.{◌≡◌, ℕ, ℤ, pos, ◌-ℤ◌, ◌≤◌, nat_le, int_lt, true, not, Option, Some, None, List, [], ◌∷◌, map, All, codes, refl, sym, ap, ◌∙◌, subst, arith, inl, inr}
 use Rattle.std.specs.List.{flat_map}
 use Rattle.std.proofs.lemmas.Bool.{and_parts, and_from, leb-true, le-leb}
 use Rattle.std.proofs.lemmas.Int.{ints}
@@ -26,20 +26,14 @@ use Rattle.palm_claim.specs.declared.statement.CertificatePhrase.TheVariants.{He
 
 -- ---- numbers in their ranges
 
-from_test : (m n : ℤ) → not (int_lt n m) ≡ true → m ≤ℤ n
-from_test m n h = grind (arith, ints)
-
-to_test : (m n : ℤ) → m ≤ℤ n → not (int_lt n m) ≡ true
-to_test m n h = grind (arith, ints)
-
 pub is_value-value : (v : ℤ) → is_value v ≡ true → IsValue v
 is_value-value v e =
     let a = and_parts (not (int_lt v (pos 0 -ℤ pos 1000000))) (not (int_lt (pos 1000000) v)) e in
-    record { above = from_test (pos 0 -ℤ pos 1000000) v a.0; below = from_test v (pos 1000000) a.1 }
+    record { above = grind (arith, ints, a.0); below = grind (arith, ints, a.1) }
 
 pub value-is_value : (v : ℤ) → IsValue v → is_value v ≡ true
 value-is_value v is =
-    and_from (not (int_lt v (pos 0 -ℤ pos 1000000))) (not (int_lt (pos 1000000) v)) (to_test (pos 0 -ℤ pos 1000000) v is.above) (to_test v (pos 1000000) is.below)
+    and_from (not (int_lt v (pos 0 -ℤ pos 1000000))) (not (int_lt (pos 1000000) v)) (grind (arith, ints, is.above)) (grind (arith, ints, is.below))
 
 pub value_takes : (tokens : List Lexeme) (x : ℤ × List Lexeme) → value_at tokens ≡ Some x → (integer_at tokens ≡ Some x) × IsValue x.0
 unfolding value_at
