@@ -1,9 +1,8 @@
 -- What is assumed, by variables.
 use Rattle.std.proofs.Common.{◌≡◌, ℕ, zero, suc, ℤ, ◌+◌, ◌-◌, ◌<◌, Bool, true, false, Option, Some, None, option_map, replicate, List, [], ◌∷◌, ◌++◌, length, get_or, take, take_all, drop, append-nil, map, All, Contains, inl, inr, refl, sym, ap, ◌∙◌, subst, arith, slice_get}
-use Rattle.std.specs.Prelude.{is_some}
 use Rattle.palm_base.specs.Tells.{Tells}
 use Rattle.palm_base.proofs.cited.Telling.{tells_same}
-use Rattle.std.proofs.lemmas.Bool.{cases_eq, false≢true, true≢false}
+use Rattle.std.proofs.lemmas.Bool.{cases_eq}
 use Rattle.std.proofs.lemmas.List.{drop_all, take_more}
 use Rattle.std.proofs.lemmas.List.Elements.{Contains-append_left, Contains-push, Contains-push_cases}
 use Rattle.std.proofs.lemmas.Option.{none-some, same_Some, slice_get-map}
@@ -106,11 +105,3 @@ pub puts_written : (before now after : List (Option ℤ)) (len x : ℕ) (value :
 puts_written before now after len x value same whole p =
     let q : Puts before after x value = subst (λ (xs : List (Option ℤ)). Puts xs after x value) same p in
     subst (λ (xs : List (Option ℤ)). Puts before xs x value) (written after before len q.long whole) q
-
-pub some_given : (o : Option ℤ) → is_some o ≡ true → (v : ℤ) × (o ≡ Some v)
-some_given None e = absurd (false≢true e)
-some_given (Some v) e = (v, refl)
-
-pub none_given : (o : Option ℤ) → is_some o ≡ false → o ≡ None
-none_given None e = refl
-none_given (Some v) e = absurd (true≢false e)

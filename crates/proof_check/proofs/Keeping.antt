@@ -23,10 +23,10 @@ more_room room more count l le b = record {
 nothing_behind : (room count : ℕ) (pairs : List Pair) → IsBehind room count (unproved pairs)
 nothing_behind room count pairs = record { constraints = All-nil (λ n. n < room); lemmas = All-nil (λ k. (1 ≤ k) × (k ≤ count)) }
 
-noted_constraint : (room count : ℕ) (l : Lemma) (n : ℕ) → IsBehind room count l → n < room → IsBehind room count (noting_constraint l n)
+pub noted_constraint : (room count : ℕ) (l : Lemma) (n : ℕ) → IsBehind room count l → n < room → IsBehind room count (noting_constraint l n)
 noted_constraint room count l n b lt = record { constraints = All-push (λ k. k < room) l.constraints n b.constraints lt; lemmas = b.lemmas }
 
-noted_lemma : (room count : ℕ) (l : Lemma) (k : ℕ) → IsBehind room count l → (1 ≤ k) × (k ≤ count) → IsBehind room count (noting_lemma l k)
+pub noted_lemma : (room count : ℕ) (l : Lemma) (k : ℕ) → IsBehind room count l → (1 ≤ k) × (k ≤ count) → IsBehind room count (noting_lemma l k)
 noted_lemma room count l k b early = record { constraints = b.constraints; lemmas = All-push (λ j. (1 ≤ j) × (j ≤ count)) l.lemmas k b.lemmas early }
 
 -- ---- what else is listed
@@ -92,15 +92,3 @@ module _ (book : Contents) (lemmas : List Lemma) (begun : Lemma) (assumed : List
     behind = kept.behind;
     last = last;
   }
-
-  pub keeps_step_by : (more : Lemma) (pair : Pair) (after : List Pair) (n : ℕ) → Has (initial_of book) pair.var pair.value → after ≡ proved ++ pair ∷ [] → more ≡ noting_constraint begun n
-      → n < length book.constraints + 1 → AreReasoned book lemmas more assumed after
-  keeps_step_by more pair after n has grown noted lt =
-      keeps_step more pair after has grown (subst (λ (l : Lemma). AreAssumed l.pairs assumed) (sym noted) kept.assumes)
-      (subst (λ (l : Lemma). IsBehind (length book.constraints + 1) (length lemmas) l) (sym noted) (noted_constraint (length book.constraints + 1) (length lemmas) begun n kept.last lt))
-
-  pub keeps_step_of_lemma : (more : Lemma) (pair : Pair) (after : List Pair) (k : ℕ) → Has (initial_of book) pair.var pair.value → after ≡ proved ++ pair ∷ [] → more ≡ noting_lemma begun k
-      → (1 ≤ k) × (k ≤ length lemmas) → AreReasoned book lemmas more assumed after
-  keeps_step_of_lemma more pair after k has grown noted early =
-      keeps_step more pair after has grown (subst (λ (l : Lemma). AreAssumed l.pairs assumed) (sym noted) kept.assumes)
-      (subst (λ (l : Lemma). IsBehind (length book.constraints + 1) (length lemmas) l) (sym noted) (noted_lemma (length book.constraints + 1) (length lemmas) begun k kept.last early))

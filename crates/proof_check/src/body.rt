@@ -202,12 +202,14 @@ impl ProofBody {
         let Some(pair) = listed.declared_pair(name, value) else {
             return Ok(false);
         };
-        if value_of(&self.assumed, pair.var).is_some() {
-            return Ok(false);
+        match value_of(&self.assumed, pair.var) {
+            Some(_) => Ok(false),
+            None => {
+                self.begun.pairs.push(pair.copy())?;
+                put(&mut self.assumed, pair.var, Some(pair.value));
+                Ok(true)
+            }
         }
-        self.begun.pairs.push(pair.copy())?;
-        put(&mut self.assumed, pair.var, Some(pair.value));
-        Ok(true)
     }
 
     /// Takes a step.

@@ -62,12 +62,6 @@ impl Items for NamedPairs {
     ghost use Rattle.proof_text.proofs.cited.Phrases.{pair_item};
     ghost use Rattle.proof_text.specs.Reader.{next_pair};
 
-    type Item = NamedPair;
-
-    ghost next_at = { next_pair };
-
-    ghost shortens = { item_shortens pair_item };
-
     #[tactic(auto, unfolding(proof_text::specs::Reader::next_pair, palm_read::specs::Reader::Steps::and_then, palm_read::specs::Reader::Steps::when))]
     fn next(cursor: &mut Cursor<'_>, alloc: Global) -> Result<Option<NamedPair>, LineError> {
         let Some(text) = cursor.name() else {
@@ -78,4 +72,10 @@ impl Items for NamedPairs {
         let value = read_value(cursor)?;
         Ok(Some(NamedPair { name, value }))
     }
+
+    ghost next_at = { next_pair };
+
+    ghost shortens = { item_shortens pair_item };
+
+    type Item = NamedPair;
 }
