@@ -1,20 +1,21 @@
 //! What is kept of a certificate besides what it lists: how far it has come, and the pairs that its steps proved.
 ghost use Rattle.std.specs.Prelude.{All, IfOk, OnOk};
-ghost use Rattle.palm_base.specs.Tells.{Tells};
 ghost use Rattle.palm_check.specs.Kept.{IsKept, TakesPhrase, said};
-ghost use Rattle.palm_claim.specs.Draft.{IsOpen, MayFollow};
+ghost use Rattle.palm_claim.specs.Draft.{IsOpen};
+ghost use Rattle.palm_claim.specs.Claim.{IsOverItsBook};
 ghost use Rattle.palm_claim.specs.Statement.{IsStepNumber};
+ghost use Rattle.palm_claim.specs.Verdict.{IsVerdict};
 ghost use Rattle.palm_claim.specs.declared.statement.CertificatePhrase.TheVariants as phrases;
 
-use crate::phrases::read_phrase;
+use crate::phrases::{claim, step};
 use palm_base::{NoMemory, Pair, Value};
 use palm_book::Book;
-use palm_claim::{Cause, CertificatePhrase, Claim, Proved, Stage, Statement, Verdict};
+use palm_claim::{Cause, CertificatePhrase, Claim, Proved, Stage, Verdict};
 use palm_listed::Listed;
 use palm_read::{Cursor, LineError, Name};
 use std::alloc::Global;
 use std::mem;
-use text_check::{Body, check_step, check_wiped, is_among};
+use text_check::{Body, FirstCause, check_step, check_text, check_wiped, is_among, read_header};
 
 /// What is kept of a certificate besides what it lists.
 #[derive(Drop)]
@@ -48,15 +49,18 @@ impl Body for CertificateBody {
 
     ghost of_book = { λ book body. refl };
 
-    fn is_lead(word: &[u8]) -> bool {
-        word == b"step".as_slice()
-            || word == b"claim".as_slice()
-            || word == b"end".as_slice()
-            || word == b"palm".as_slice()
-    }
-
+    #[tactic(auto, unfolding(palm_claim::specs::Reader::phrase_at, palm_read::specs::Reader::Steps::when, palm_read::specs::Reader::Steps::and_then))]
     fn read(cursor: &mut Cursor<'_>, alloc: Global) -> Result<CertificatePhrase, LineError> {
-        read_phrase(cursor, alloc)
+        if cursor.takes_word(b"step") {
+            step(cursor, alloc)
+        } else if cursor.takes_word(b"claim") {
+            claim(cursor, alloc)
+        } else if cursor.takes_word(b"end") {
+            Ok(CertificatePhrase::End)
+        } else {
+            read_header(cursor, b"cert")?;
+            Ok(CertificatePhrase::Header)
+        }
     }
 
     fn new(alloc: Global) -> CertificateBody {
@@ -66,12 +70,26 @@ impl Body for CertificateBody {
         }
     }
 
-    fn may_stand(&self, statement: &Statement<CertificatePhrase>) -> bool {
-        match statement {
-            Statement::Comment => true,
-            Statement::Variable { .. } => matches!(self.stage, Stage::Declaring),
-            Statement::Constraint { .. } => matches!(self.stage, Stage::Declaring | Stage::Listing),
-            Statement::Phrase(phrase) => may_follow(&self.stage, phrase),
+    fn may_declare(&self) -> bool {
+        matches!(self.stage, Stage::Declaring)
+    }
+
+    fn may_list(&self) -> bool {
+        matches!(self.stage, Stage::Declaring | Stage::Listing)
+    }
+
+    fn may_follow(&self, phrase: &CertificatePhrase) -> bool {
+        match phrase {
+            CertificatePhrase::Header => matches!(self.stage, Stage::Unopened),
+            CertificatePhrase::Step { .. }
+            | CertificatePhrase::ValueClaim { .. }
+            | CertificatePhrase::ConflictClaim(_) => {
+                matches!(
+                    self.stage,
+                    Stage::Declaring | Stage::Listing | Stage::Proving
+                )
+            }
+            CertificatePhrase::End => matches!(self.stage, Stage::Claimed(_)),
         }
     }
 
@@ -88,7 +106,7 @@ impl Body for CertificateBody {
         alloc: Global,
         listed: &mut Listed,
         phrase: CertificatePhrase,
-    ) -> Result<Option<Cause>, NoMemory> {
+    ) -> FirstCause {
         match phrase {
             CertificatePhrase::Header => {
                 self.stage = Stage::Declaring;
@@ -137,7 +155,7 @@ impl CertificateBody {
         value: Value,
         by: &Name,
         reasons: &[u32],
-    ) -> Result<Option<Cause>, NoMemory>
+    ) -> FirstCause
         requires stands { IsOpen self.old.stage }
         requires range { All IsStepNumber reasons.now }
         requires kept { IsKept listed.old self.old }
@@ -192,17 +210,11 @@ impl CertificateBody {
     }
 }
 
-/// Whether the phrase may stand behind the lines so far.
-fn may_follow(stage: &Stage, phrase: &CertificatePhrase) -> bool
-    ensures { Tells result (MayFollow stage.now phrase.now) }
+/// The verdict on a text: that it is a certificate and what it proves, or its first line that has a cause. A text may be
+/// of any length.
+pub fn check(alloc: Global, bytes: &[u8]) -> Result<Verdict, NoMemory>
+    ensures verdict { IfOk result (IsVerdict bytes.now) }
+    ensures named { IfOk result IsOverItsBook }
 {
-    match phrase {
-        CertificatePhrase::Header => matches!(stage, Stage::Unopened),
-        CertificatePhrase::Step { .. }
-        | CertificatePhrase::ValueClaim { .. }
-        | CertificatePhrase::ConflictClaim(_) => {
-            matches!(stage, Stage::Declaring | Stage::Listing | Stage::Proving)
-        }
-        CertificatePhrase::End => matches!(stage, Stage::Claimed(_)),
-    }
+    check_text::<CertificateBody>(alloc, bytes)
 }

@@ -3,7 +3,6 @@
 
 mod body;
 mod phrases;
-mod verdict;
 
+pub use body::check;
 pub use palm_claim::{Cause, Proved, Verdict};
-pub use verdict::check;

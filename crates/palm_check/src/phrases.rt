@@ -1,31 +1,15 @@
-//! Reading the phrases of certificates.
-ghost use Rattle.palm_claim.specs.Reader.{claim_at, phrase_at, step_at};
+//! Reading steps and claims.
+ghost use Rattle.palm_claim.specs.Reader.{claim_at, step_at};
 ghost use Rattle.palm_read.specs.Reader.Held.{Gives};
 
 use palm_claim::CertificatePhrase;
 use palm_read::{Cursor, LineError, Name};
 use std::alloc::Global;
-use text_check::{read_header, read_reasons, read_value};
+use text_check::{read_reasons, read_value};
 
-/// Reads a phrase by its first word.
-#[tactic(auto, unfolding(palm_claim::specs::Reader::phrase_at, palm_read::specs::Reader::Steps::when, palm_read::specs::Reader::Steps::and_then))]
-pub fn read_phrase(cursor: &mut Cursor<'_>, alloc: Global) -> Result<CertificatePhrase, LineError>
-    ensures { Gives (λ phrase. phrase) result cursor.new (phrase_at cursor.old) }
-{
-    if cursor.takes_word(b"step") {
-        step(cursor, alloc)
-    } else if cursor.takes_word(b"claim") {
-        claim(cursor, alloc)
-    } else if cursor.takes_word(b"end") {
-        Ok(CertificatePhrase::End)
-    } else {
-        read_header(cursor, b"cert")?;
-        Ok(CertificatePhrase::Header)
-    }
-}
-
+/// Reads a name, a value, `by` and the reasons.
 #[tactic(auto, unfolding(palm_claim::specs::Reader::step_at, palm_read::specs::Reader::Steps::and_then))]
-fn step(cursor: &mut Cursor<'_>, alloc: Global) -> Result<CertificatePhrase, LineError>
+pub fn step(cursor: &mut Cursor<'_>, alloc: Global) -> Result<CertificatePhrase, LineError>
     ensures { Gives (λ phrase. phrase) result cursor.new (step_at cursor.old) }
 {
     let name = cursor.owned_name(alloc)?;
@@ -43,7 +27,7 @@ fn step(cursor: &mut Cursor<'_>, alloc: Global) -> Result<CertificatePhrase, Lin
 
 /// Reads `conflict` and a name, or a name and a value.
 #[tactic(auto, unfolding(palm_claim::specs::Reader::claim_at, palm_read::specs::Reader::Steps::and_then, palm_read::specs::Reader::Steps::when, palm_read::specs::Reader::Steps::choose))]
-fn claim(cursor: &mut Cursor<'_>, alloc: Global) -> Result<CertificatePhrase, LineError>
+pub fn claim(cursor: &mut Cursor<'_>, alloc: Global) -> Result<CertificatePhrase, LineError>
     ensures { Gives (λ phrase. phrase) result cursor.new (claim_at cursor.old) }
 {
     let first = cursor.owned_name(alloc)?;

@@ -3,7 +3,7 @@ use Rattle.std.proofs.Common.{◌≡◌, ℕ, ◌<◌, List, length, inl, refl}
 use Rattle.palm_base.specs.First.{IsNone}
 use Rattle.palm_base.proofs.cited.Members.{Known, known_not}
 use Rattle.palm_read.proofs.cited.KnownLimits.{above_known, known_either}
-use Rattle.palm_claim.specs.Draft.{Draft, IsOpen, Leads, MayFollow, MayList, MayStand, at_stage, blank, with_step}
+use Rattle.palm_claim.specs.Draft.{Draft, IsOpen, Leads, MayFollow, MayList, at_stage, blank, with_step}
 use Rattle.palm_claim.specs.Step.{IsReached, IsRight}
 use Rattle.palm_claim.specs.Judging.{in_order}
 use Rattle.palm_claim.specs.Verdict.{HasUnproved, IsMisdeclared, IsNotReached, IsNotRight, IsVerdict, Meets, MeetsPhrase, certificates, of_certificates}
@@ -12,18 +12,17 @@ use Rattle.palm_claim.specs.declared.statement.CertificatePhrase.TheVariants.{He
 use Rattle.palm_claim.specs.declared.statement.Stage.{Stage}
 use Rattle.palm_claim.specs.declared.statement.Stage.TheVariants.{Declaring, Listing, Proving, Claimed, Closed}
 use Rattle.palm_claim.specs.declared.statement.Statement.{Statement}
-use Rattle.palm_claim.specs.declared.statement.Statement.TheVariants.{Comment, Variable, Constraint, Phrase}
+use Rattle.palm_claim.specs.declared.statement.Statement.TheVariants.{Phrase}
 use Rattle.palm_claim.specs.declared.verdict.Claim.{Claim}
 use Rattle.palm_claim.specs.declared.verdict.Claim.TheVariants.{Gone, Conflict}
 use Rattle.palm_claim.specs.declared.verdict.Cause.{Cause}
-use Rattle.palm_claim.specs.declared.verdict.Cause.TheVariants.{Malformed, Misdeclared, Beyond, Unproved, NotRight, NotReached}
 use Rattle.palm_claim.specs.declared.verdict.Verdict.{Verdict}
 use Rattle.palm_book.proofs.cited.Naming.{some_known, variable_with}
 use Rattle.palm_claim.proofs.cited.Judged.{has_verdict}
-use Rattle.palm_claim.proofs.cited.Listing.{ArePhrasesKnown, NamesApart, is_known, leads_apart, none_apart}
+use Rattle.palm_claim.proofs.cited.Listing.{ArePhrasesKnown, NamesApart, is_known, leads_apart, meets_by_known, none_apart}
 use Rattle.palm_claim.proofs.cited.Phrases.{are_phrases}
 use Rattle.palm_claim.proofs.cited.Unique.{certificates_keep}
-use Rattle.palm_claim.proofs.Stages.{is_declaring, is_unopened}
+use Rattle.palm_claim.proofs.cited.Explained.{is_declaring, is_unopened}
 use Rattle.palm_claim.proofs.cited.Asked.{known_never, settled, variable_known, constraint_known, declared_known, pair_with, right_known, reached_known, asked_of_pair, asked_of_variable}
 
 -- ---- the order of the lines
@@ -46,12 +45,6 @@ follow_known stage (ValueClaim name value) = open_known stage
 follow_known stage (ConflictClaim name) = open_known stage
 follow_known (Claimed c) End = inl tt
 follow_known _ End = known_never
-
-stand_known : (stage : Stage) (s : Statement CertificatePhrase) → Known (MayStand stage s)
-stand_known stage Comment = inl tt
-stand_known stage (Variable name domain) = is_declaring stage
-stand_known stage (Constraint name shape) = list_known stage
-stand_known stage (Phrase phrase) = follow_known stage phrase
 
 -- ---- declarations
 
@@ -80,12 +73,8 @@ not_reached_known d (ConflictClaim name) apart =
 not_reached_known d _ apart = known_never
 
 meets_known : (d : Draft) (s : CertificatePhrase) → NamesApart d.book → (cause : Cause) → Known (MeetsPhrase d s cause)
-meets_known d s apart Malformed = known_never
-meets_known d s apart Misdeclared = misdeclared_known d s
-meets_known d s apart Beyond = known_never
-meets_known d s apart Unproved = unproved_known d s
-meets_known d s apart NotRight = not_right_known d s apart
-meets_known d s apart NotReached = not_reached_known d s apart
+meets_known d s keeps =
+    meets_by_known IsMisdeclared HasUnproved IsNotRight IsNotReached d s (misdeclared_known d s) (unproved_known d s) (not_right_known d s keeps) (not_reached_known d s keeps)
 
 -- ---- a line
 
@@ -111,7 +100,9 @@ leads_on d End none = let c = claimed_end d.stage none.0 in (at_stage d (Closed 
 
 phrases_known : ArePhrasesKnown of_certificates (λ d. NamesApart d.book)
 phrases_known = record {
-  may_stand = λ d s. stand_known d.stage s;
+  declares = λ d. is_declaring d.stage;
+  lists = λ d. list_known d.stage;
+  follows = λ d s. follow_known d.stage s;
   meets = meets_known;
   leads = λ d s apart none. leads_on d s none;
 }

@@ -1,3 +1,2 @@
 pub mod cited
 pub mod Known
-pub mod Stages

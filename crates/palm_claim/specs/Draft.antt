@@ -1,16 +1,13 @@
 -- What the lines of a certificate have said so far, which lines may follow, and what each adds.
-use Rattle.std.specs.Prelude.{◌≡◌, ℕ, ℤ, List, [], ◌∷◌, ◌++◌, ⊤}
+use Rattle.std.specs.Prelude.{◌≡◌, ℕ, List, [], ◌∷◌, ◌++◌, ⊤}
 use Rattle.palm_base.specs.declared.terms.Pair.{Pair}
-use Rattle.palm_book.specs.Book.{Contents, with_listed}
-use Rattle.palm_book.specs.Book as in_book
+use Rattle.palm_book.specs.Book.{Contents}
 use Rattle.palm_book.specs.Named.{IsPair, IsVariable}
-use Rattle.palm_model.specs.declared.constraint.Con.{Con}
+use Rattle.palm_claim.specs.Own.{Books, Order}
 use Rattle.palm_claim.specs.declared.statement.CertificatePhrase.{CertificatePhrase}
 use Rattle.palm_claim.specs.declared.statement.CertificatePhrase.TheVariants.{Header, Step, ValueClaim, ConflictClaim, End}
 use Rattle.palm_claim.specs.declared.statement.Stage.{Stage}
 use Rattle.palm_claim.specs.declared.statement.Stage.TheVariants.{Unopened, Declaring, Listing, Proving, Claimed, Closed}
-use Rattle.palm_claim.specs.declared.statement.Statement.{Statement}
-use Rattle.palm_claim.specs.declared.statement.Statement.TheVariants.{Comment, Variable, Constraint, Phrase}
 use Rattle.palm_claim.specs.declared.verdict.Claim.{Claim}
 use Rattle.palm_claim.specs.declared.verdict.Claim.TheVariants.{Gone, Conflict}
 
@@ -23,6 +20,14 @@ pub record Draft : Type 0 where
 -- nothing was said
 abbrev pub blank : Draft
 blank = record { stage = Unopened; book = record { variables = []; constraints = [] }; proved = [] }
+
+-- the book of a draft, and the draft with a longer one behind a variable or a constraint
+abbrev pub books : Books Draft
+books = record {
+  book = λ d. d.book;
+  declared = λ d book. record d { book = book };
+  listed = λ d book. record d { stage = Listing; book = book };
+}
 
 -- ---- the order of the lines
 
@@ -48,20 +53,14 @@ MayFollow stage (ConflictClaim name) = IsOpen stage
 MayFollow (Claimed claim) End = ⊤
 MayFollow stage End = ⊥
 
--- so may a line that says this
-abbrev pub MayStand : Stage → Statement CertificatePhrase → Type 0
-MayStand stage Comment = ⊤
-MayStand stage (Variable name domain) = stage ≡ Declaring
-MayStand stage (Constraint name shape) = MayList stage
-MayStand stage (Phrase phrase) = MayFollow stage phrase
+abbrev pub order : Order Draft CertificatePhrase
+order = record {
+  MayDeclare = λ d. d.stage ≡ Declaring;
+  MayList = λ d. MayList d.stage;
+  MayFollow = λ d phrase. MayFollow d.stage phrase;
+}
 
 -- ---- what a line adds
-
-abbrev pub with_variable : Draft → List ℕ → List ℤ → Draft
-with_variable d name values = record d { book = in_book.with_variable d.book name values }
-
-abbrev pub with_constraint : Draft → List ℕ → Con → Draft
-with_constraint d name con = record d { stage = Listing; book = with_listed d.book name con }
 
 abbrev pub with_step : Draft → Pair → Draft
 with_step d pair = record d { stage = Proving; proved = d.proved ++ pair ∷ [] }

@@ -1,5 +1,5 @@
 -- Readers of the forms that only certificates have. That they read just these forms is proved of them.
-use Rattle.std.specs.Prelude.{ℕ, ℤ, pos, ◌-ℤ◌, nat_le, Bool, true, false, not, int_lt, ◌&&◌, ◌||◌, Option, Some, None, List, [], ◌∷◌, codes}
+use Rattle.std.specs.Prelude.{ℕ, ℤ, pos, ◌-ℤ◌, nat_le, Bool, true, false, not, int_lt, ◌&&◌, Option, Some, None, List, [], ◌∷◌, codes}
 use Rattle.std.specs.Str.{bytes_eq}
 use Rattle.palm_model.specs.declared.limits.TheConstants.{GREATEST_VALUE}
 use Rattle.palm_read.specs.Piece.{digits_number}
@@ -84,7 +84,3 @@ phrase_at tokens =
     (do
       rest ← header_at (codes "cert") tokens
       Some (Header, rest))))
-
--- the first words of these forms
-abbrev pub is_lead : List ℕ → Bool
-is_lead w = bytes_eq w (codes "step") || (bytes_eq w (codes "claim") || (bytes_eq w (codes "end") || bytes_eq w (codes "palm")))

@@ -1,15 +1,18 @@
 -- What a line of a certificate says: its phrases are those of this file.
-use Rattle.std.specs.Prelude.{◌≡◌, ℕ, ℤ, List, [], ◌∷◌, map, All, codes, ⊤}
+use Rattle.std.specs.Prelude.{ℕ, ℤ, List, [], ◌∷◌, map, All, codes, ⊤}
 use Rattle.palm_model.specs.Limits.{IsValue}
 use Rattle.palm_read.specs.Bounds.{IsFromOneTo}
-use Rattle.palm_read.specs.Piece.{Piece, Keyword, Named, Integer, Natural, Spells}
-use Rattle.palm_read.specs.Token.{Lexeme}
+use Rattle.palm_read.specs.Piece.{Piece, Keyword, Named, Integer, Natural}
 use Rattle.palm_claim.specs.Phrases as of_texts
-use Rattle.palm_claim.specs.Phrases.{Phrases, header_of}
-use Rattle.palm_claim.specs.Reader.{is_lead, phrase_at}
+use Rattle.palm_claim.specs.Phrases.{Phrases, header_pieces}
+use Rattle.palm_claim.specs.Reader.{phrase_at}
 use Rattle.palm_claim.specs.declared.statement.CertificatePhrase.{CertificatePhrase}
 use Rattle.palm_claim.specs.declared.statement.CertificatePhrase.TheVariants.{Header, Step, ValueClaim, ConflictClaim, End}
 use Rattle.palm_claim.specs.declared.statement.Statement.{Statement}
+
+-- a number that may stand behind `from`: one of 32 bits
+abbrev pub IsStepNumber : ℕ → Type 0
+IsStepNumber k = IsFromOneTo 4294967295 k
 
 -- "from" K { K }, or nothing
 abbrev pub reasons_pieces : List ℕ → List Piece
@@ -28,27 +31,23 @@ value_claim_pieces name value = Keyword (codes "claim") ∷ Named name ∷ Integ
 abbrev pub conflict_claim_pieces : List ℕ → List Piece
 conflict_claim_pieces name = Keyword (codes "claim") ∷ Keyword (codes "conflict") ∷ Named name ∷ []
 
--- the tokens are those of the phrase
-abbrev pub IsSpelled : List Lexeme → CertificatePhrase → Type 0
-IsSpelled tokens Header = tokens ≡ header_of (codes "cert")
-IsSpelled tokens (Step name value by reasons) = Spells tokens (step_pieces name value by reasons)
-IsSpelled tokens (ValueClaim name value) = Spells tokens (value_claim_pieces name value)
-IsSpelled tokens (ConflictClaim name) = Spells tokens (conflict_claim_pieces name)
-IsSpelled tokens End = Spells tokens (Keyword (codes "end") ∷ [])
-
--- a number that may stand behind `from`: one of 32 bits
-abbrev pub IsStepNumber : ℕ → Type 0
-IsStepNumber k = IsFromOneTo 4294967295 k
-
 -- the numbers of the phrase are in their ranges
 abbrev pub AreInRange : CertificatePhrase → Type 0
 AreInRange (Step name value by reasons) = IsValue value × All IsStepNumber reasons
 AreInRange (ValueClaim name value) = IsValue value
 AreInRange _ = ⊤
 
+-- the pieces that the phrase is written with
+abbrev pub phrase_pieces : CertificatePhrase → List Piece
+phrase_pieces Header = header_pieces (codes "cert")
+phrase_pieces (Step name value by reasons) = step_pieces name value by reasons
+phrase_pieces (ValueClaim name value) = value_claim_pieces name value
+phrase_pieces (ConflictClaim name) = conflict_claim_pieces name
+phrase_pieces End = Keyword (codes "end") ∷ []
+
 -- the phrases of certificates
 abbrev pub phrases : Phrases CertificatePhrase
-phrases = record { is_lead = is_lead; phrase_at = phrase_at; IsSpelled = IsSpelled; AreInRange = AreInRange }
+phrases = record { phrase_at = phrase_at; pieces = phrase_pieces; AreInRange = AreInRange }
 
 -- what a line says
 abbrev pub Says : List ℕ → Statement CertificatePhrase → Type 0

@@ -3,21 +3,21 @@ use Rattle.std.specs.Prelude.{ℕ, ◌<◌, ◌⊎◌, List, length, Any}
 use Rattle.palm_base.specs.declared.terms.Pair.{Pair}
 use Rattle.palm_book.specs.Book.{Contents, HasConstraint, HasVariable}
 use Rattle.palm_book.specs.Named.{IsDeclared, IsPair, IsVariable}
-use Rattle.palm_claim.specs.Draft.{Draft, Leads, MayStand, blank}
+use Rattle.palm_claim.specs.Draft.{Draft, Leads, blank, books, order}
 use Rattle.palm_claim.specs.Judging.{Family, IsVerdictFrom}
 use Rattle.palm_claim.specs.Own as of_texts
-use Rattle.palm_claim.specs.Own.{Own, family_of}
+use Rattle.palm_claim.specs.Own.{MeetsBy, Own, family_of, own_by}
 use Rattle.palm_claim.specs.Statement.{phrases}
 use Rattle.palm_claim.specs.Step.{IsReached, IsRightBy, nothing}
 use Rattle.palm_claim.specs.declared.ground.Ground.TheVariants.{By}
 use Rattle.palm_claim.specs.declared.statement.CertificatePhrase.{CertificatePhrase}
 use Rattle.palm_claim.specs.declared.statement.CertificatePhrase.TheVariants.{Step, ValueClaim, ConflictClaim}
 use Rattle.palm_claim.specs.declared.statement.Stage.{Stage}
-use Rattle.palm_claim.specs.declared.statement.Stage.TheVariants.{Closed, Listing}
+use Rattle.palm_claim.specs.declared.statement.Stage.TheVariants.{Closed}
 use Rattle.palm_claim.specs.declared.statement.Statement.{Statement}
 use Rattle.palm_claim.specs.declared.verdict.Claim.TheVariants.{Gone, Conflict}
 use Rattle.palm_claim.specs.declared.verdict.Cause.{Cause}
-use Rattle.palm_claim.specs.declared.verdict.Cause.TheVariants.{Misdeclared, Unproved, NotRight, NotReached}
+use Rattle.palm_claim.specs.declared.verdict.Cause.TheVariants.{NotReached}
 use Rattle.palm_claim.specs.declared.verdict.Verdict.{Verdict}
 use Rattle.palm_claim.specs.declared.verdict.Verdict.TheVariants.{Accepted, Refused}
 
@@ -48,11 +48,7 @@ IsNotReached d _ = ⊥
 
 -- the condition of a cause, other than that it may not stand there
 abbrev pub MeetsPhrase : Draft → CertificatePhrase → Cause → Type 0
-MeetsPhrase d phrase Misdeclared = IsMisdeclared d phrase
-MeetsPhrase d phrase Unproved = HasUnproved d phrase
-MeetsPhrase d phrase NotRight = IsNotRight d phrase
-MeetsPhrase d phrase NotReached = IsNotReached d phrase
-MeetsPhrase d phrase _ = ⊥
+MeetsPhrase d phrase cause = MeetsBy IsMisdeclared HasUnproved IsNotRight IsNotReached d phrase cause
 
 -- ---- the text
 
@@ -63,17 +59,7 @@ ending stage book n = Refused n NotReached
 
 -- what is the own of certificates among all such texts
 abbrev pub of_certificates : Own Draft CertificatePhrase Verdict
-of_certificates = record {
-  phrases = phrases;
-  book = λ d. d.book;
-  MayStand = λ d statement. MayStand d.stage statement;
-  declared = λ d book. record d { book = book };
-  listed = λ d book. record d { stage = Listing; book = book };
-  MeetsPhrase = MeetsPhrase;
-  LeadsPhrase = Leads;
-  ending = λ d n. ending d.stage d.book n;
-  refused = λ n cause. Refused n cause;
-}
+of_certificates = own_by phrases order books MeetsPhrase Leads (λ d n. ending d.stage d.book n) (λ n cause. Refused n cause)
 
 -- certificates
 abbrev pub certificates : Family Draft (Statement CertificatePhrase) Verdict

@@ -1,25 +1,18 @@
 -- What is assumed, by variables.
-use Rattle.std.proofs.Common.{◌≡◌, ℕ, zero, suc, ℤ, ◌+◌, ◌-◌, ◌<◌, Bool, true, false, Option, Some, None, option_map, List, [], ◌∷◌, ◌++◌, length, get_or, take, take_all, drop, append-nil, map, All, Contains, inl, inr, refl, sym, ap, ◌∙◌, subst, arith, slice_get}
-use Rattle.std.specs.Prelude.{is_some}
+use Rattle.std.proofs.Common.{◌≡◌, ℕ, zero, suc, ℤ, ◌+◌, ◌-◌, ◌<◌, Bool, true, false, Option, Some, None, option_map, replicate, List, [], ◌∷◌, ◌++◌, length, get_or, take, take_all, drop, append-nil, map, All, Contains, inl, inr, refl, sym, ap, ◌∙◌, subst, arith, slice_get}
 use Rattle.palm_base.specs.Tells.{Tells}
 use Rattle.palm_base.proofs.cited.Telling.{tells_same}
-use Rattle.std.proofs.lemmas.Bool.{cases_eq, false≢true, true≢false}
+use Rattle.std.proofs.lemmas.Bool.{cases_eq}
 use Rattle.std.proofs.lemmas.List.{drop_all, take_more}
 use Rattle.std.proofs.lemmas.List.Elements.{Contains-append_left, Contains-push, Contains-push_cases}
 use Rattle.std.proofs.lemmas.Option.{none-some, same_Some, slice_get-map}
 use Rattle.palm_base.specs.declared.terms.Pair.{Pair}
-use Rattle.palm_base.proofs.cited.Members.{all_members, member_nil}
+use Rattle.palm_base.proofs.cited.Members.{member_nil}
 use Rattle.palm_claim.specs.Step.{IsAssumed, IsOfLemma}
 use Rattle.proof_text.specs.declared.lemma.Lemma.{Lemma}
-use Rattle.proof_check.specs.Kept.{AreAssumed, Forgets, IsByOthers, IsOther, Puts, assumed_at}
+use Rattle.proof_check.specs.Kept.{AreAssumed, IsByOthers, IsOther, Puts, assumed_at}
 
 -- ---- one variable
-
--- a variable for which something is assumed has a place
-pub at_within : (xs : List (Option ℤ)) (x : ℕ) (v : ℤ) → assumed_at xs x ≡ Some v → x < length xs
-at_within [] x v e = absurd (none-some v e)
-at_within (o ∷ xs) zero v e = omega arith
-at_within (o ∷ xs) (suc x) v e = omega (arith, at_within xs x v e)
 
 at_push : (xs : List (Option ℤ)) (x : ℕ) → assumed_at (xs ++ None ∷ []) x ≡ assumed_at xs x
 at_push [] zero = refl
@@ -28,9 +21,6 @@ at_push (o ∷ xs) zero = refl
 at_push (o ∷ xs) (suc x) = at_push xs x
 
 -- ---- all that is assumed
-
-pub assumed_within : (pairs : List Pair) (xs : List (Option ℤ)) → AreAssumed pairs xs → All (λ p. p.var < length xs) pairs
-assumed_within pairs xs a = all_members (λ p. p.var < length xs) pairs (λ p m. at_within xs p.var p.value (a.each p m))
 
 pub still_assumed : (pairs : List Pair) (xs : List (Option ℤ)) → AreAssumed pairs xs → AreAssumed pairs (xs ++ None ∷ [])
 still_assumed pairs xs a = record {
@@ -62,32 +52,13 @@ assumed_more pairs before after p a none puts = record { each = each; only = onl
 
 -- ---- nothing any more
 
-pub forgets_none : (xs : List (Option ℤ)) → Forgets xs xs []
-forgets_none xs = record { long = refl; gone = λ p m. absurd (member_nil p m); only = λ x v e. e }
+at_none : (n x : ℕ) → assumed_at (replicate n None) x ≡ None
+at_none zero x = refl
+at_none (suc n) zero = refl
+at_none (suc n) (suc x) = at_none n x
 
-pub forgets_more : (before now after : List (Option ℤ)) (pairs : List Pair) (p : Pair) → Forgets before now pairs → Puts now after p.var None → Forgets before after (pairs ++ p ∷ [])
-forgets_more before now after pairs p f puts = record { long = puts.long ∙ f.long; gone = gone; only = only }
-  where
-    gone : (q : Pair) → Contains (pairs ++ p ∷ []) q → assumed_at after q.var ≡ None
-    gone q m = elim (cases_eq q.var p.var) [
-      | inl e ↦ ap (assumed_at after) e ∙ puts.here
-      | inr ne ↦ elim (Contains-push_cases pairs p q m) [
-        | inl l ↦ puts.others q.var ne ∙ f.gone q l
-        | inr same ↦ absurd (ne (ap (λ (r : Pair). r.var) (sym same)))
-      ]
-    ]
-
-    only : (x : ℕ) (v : ℤ) → assumed_at after x ≡ Some v → assumed_at before x ≡ Some v
-    only x v e = elim (cases_eq x p.var) [
-      | inl same ↦ absurd (none-some v (sym puts.here ∙ ap (assumed_at after) (sym same) ∙ e))
-      | inr ne ↦ f.only x v (sym (puts.others x ne) ∙ e)
-    ]
-
-pub forgotten : (pairs : List Pair) (before after : List (Option ℤ)) → AreAssumed pairs before → Forgets before after pairs → AreAssumed [] after
-forgotten pairs before after a f = record {
-  each = λ p m. absurd (member_nil p m);
-  only = λ x v e. absurd (none-some v (sym (f.gone (record { var = x; value = v }) (a.only x v (f.only x v e))) ∙ e));
-}
+pub none_assumed : (n : ℕ) → AreAssumed [] (replicate n None)
+none_assumed n = record { each = λ p m. absurd (member_nil p m); only = λ x v e. absurd (none-some v (sym (at_none n x) ∙ e)) }
 
 -- ---- steps by what is assumed
 
@@ -129,22 +100,8 @@ written : {X : Type 0} (xs ys : List X) (n : ℕ) → length xs ≡ length ys �
 written {X = X} xs ys n long same =
     sym (take_all n xs (omega (arith, long, same))) ∙ ap (λ (zs : List X). take n zs) (sym (append-nil xs)) ∙ ap (λ (zs : List X). take n (xs ++ zs)) (sym (drop_all (length xs) ys (omega (arith, long))))
 
-pub forgets_written : (before now after : List (Option ℤ)) (len : ℕ) (lent pairs : List Pair) → now ≡ before → lent ≡ pairs → len ≡ length before → Forgets now after lent
-    → Forgets before (take len (after ++ drop (length after) before)) pairs
-forgets_written before now after len lent pairs same is whole f =
-    let g : Forgets before after pairs = subst (λ (ps : List Pair). Forgets before after ps) is (subst (λ (xs : List (Option ℤ)). Forgets xs after lent) same f) in
-    subst (λ (xs : List (Option ℤ)). Forgets before xs pairs) (written after before len g.long whole) g
-
 pub puts_written : (before now after : List (Option ℤ)) (len x : ℕ) (value : Option ℤ) → now ≡ before → len ≡ length before → Puts now after x value
     → Puts before (take len (after ++ drop (length after) before)) x value
 puts_written before now after len x value same whole p =
     let q : Puts before after x value = subst (λ (xs : List (Option ℤ)). Puts xs after x value) same p in
     subst (λ (xs : List (Option ℤ)). Puts before xs x value) (written after before len q.long whole) q
-
-pub some_given : (o : Option ℤ) → is_some o ≡ true → (v : ℤ) × (o ≡ Some v)
-some_given None e = absurd (false≢true e)
-some_given (Some v) e = (v, refl)
-
-pub none_given : (o : Option ℤ) → is_some o ≡ false → o ≡ None
-none_given None e = refl
-none_given (Some v) e = absurd (true≢false e)

@@ -1,6 +1,6 @@
 -- What is kept of a proof stays so: more that is listed, a lemma begun, a pair assumed, a step, and a lemma that is done.
-use Rattle.std.proofs.Common.{◌≡◌, ℕ, ℤ, ◌+◌, ◌<◌, ◌≤◌, Option, Some, None, List, [], ◌∷◌, ◌++◌, length, All, sym, ap, ◌∙◌, subst, arith}
-use Rattle.std.proofs.lemmas.List.{length_push}
+use Rattle.std.proofs.Common.{◌≡◌, ℕ, ℤ, ◌+◌, ◌<◌, ◌≤◌, Option, Some, None, List, [], ◌∷◌, ◌++◌, length, replicate, All, sym, ap, ◌∙◌, subst, arith}
+use Rattle.std.proofs.lemmas.List.{length-replicate, length_push}
 use Rattle.std.proofs.lemmas.List.Elements.{All-nil, All-push, All-weaker}
 use Rattle.palm_base.specs.declared.terms.Pair.{Pair}
 use Rattle.palm_book.specs.Book.{BookVar, Contents, initial_of, listed, with_listed, with_variable}
@@ -9,8 +9,8 @@ use Rattle.palm_model.specs.Domains.{Has}
 use Rattle.palm_model.specs.declared.constraint.Con.{Con}
 use Rattle.proof_text.specs.Draft.{unproved}
 use Rattle.proof_text.specs.declared.lemma.Lemma.{Lemma}
-use Rattle.proof_check.specs.Kept.{AreAssumed, AreReasoned, Forgets, IsBehind, Puts, assumed_at, noting_constraint, noting_lemma}
-use Rattle.proof_check.proofs.Assuming.{assumed_more, forgotten, still_assumed}
+use Rattle.proof_check.specs.Kept.{AreAssumed, AreReasoned, IsBehind, Puts, assumed_at, noting_constraint, noting_lemma}
+use Rattle.proof_check.proofs.Assuming.{assumed_more, none_assumed, still_assumed}
 
 -- ---- lemmas before a lemma
 
@@ -23,10 +23,10 @@ more_room room more count l le b = record {
 nothing_behind : (room count : ℕ) (pairs : List Pair) → IsBehind room count (unproved pairs)
 nothing_behind room count pairs = record { constraints = All-nil (λ n. n < room); lemmas = All-nil (λ k. (1 ≤ k) × (k ≤ count)) }
 
-noted_constraint : (room count : ℕ) (l : Lemma) (n : ℕ) → IsBehind room count l → n < room → IsBehind room count (noting_constraint l n)
+pub noted_constraint : (room count : ℕ) (l : Lemma) (n : ℕ) → IsBehind room count l → n < room → IsBehind room count (noting_constraint l n)
 noted_constraint room count l n b lt = record { constraints = All-push (λ k. k < room) l.constraints n b.constraints lt; lemmas = b.lemmas }
 
-noted_lemma : (room count : ℕ) (l : Lemma) (k : ℕ) → IsBehind room count l → (1 ≤ k) × (k ≤ count) → IsBehind room count (noting_lemma l k)
+pub noted_lemma : (room count : ℕ) (l : Lemma) (k : ℕ) → IsBehind room count l → (1 ≤ k) × (k ≤ count) → IsBehind room count (noting_lemma l k)
 noted_lemma room count l k b early = record { constraints = b.constraints; lemmas = All-push (λ j. (1 ≤ j) × (j ≤ count)) l.lemmas k b.lemmas early }
 
 -- ---- what else is listed
@@ -63,11 +63,11 @@ module _ (before after : Contents) (lemmas : List Lemma) (begun : Lemma) (assume
 
 module _ (book : Contents) (lemmas : List Lemma) (begun : Lemma) (assumed : List (Option ℤ)) (proved : List Pair) (kept : AreReasoned book lemmas begun assumed proved) where
   -- a lemma begins that assumes nothing
-  pub keeps_cleared : (new : Lemma) (after : List (Option ℤ)) (none : List Pair) → Forgets assumed after begun.pairs → new ≡ unproved [] → none ≡ [] → AreReasoned book lemmas new after none
-  keeps_cleared new after none forgets fresh empty = rw (fresh, empty) (record {
+  pub keeps_cleared : (new : Lemma) (after : List (Option ℤ)) (none : List Pair) → after ≡ replicate (length assumed) None → new ≡ unproved [] → none ≡ [] → AreReasoned book lemmas new after none
+  keeps_cleared new after none cleared fresh empty = rw (cleared, fresh, empty) (record {
     declared = All-nil (λ (p : Pair). Has (initial_of book) p.var p.value);
-    long = forgets.long ∙ kept.long;
-    assumes = forgotten begun.pairs assumed after kept.assumes forgets;
+    long = length-replicate (length assumed) None ∙ kept.long;
+    assumes = none_assumed (length assumed);
     behind = kept.behind;
     last = nothing_behind (length book.constraints + 1) (length lemmas) [];
   })
@@ -83,7 +83,7 @@ module _ (book : Contents) (lemmas : List Lemma) (begun : Lemma) (assumed : List
     last = subst (λ (l : Lemma). IsBehind (length book.constraints + 1) (length lemmas) l) (sym grown) (record { constraints = kept.last.constraints; lemmas = kept.last.lemmas });
   }
 
-  keeps_step : (more : Lemma) (pair : Pair) (after : List Pair) → Has (initial_of book) pair.var pair.value → after ≡ proved ++ pair ∷ [] → AreAssumed more.pairs assumed
+  pub keeps_step : (more : Lemma) (pair : Pair) (after : List Pair) → Has (initial_of book) pair.var pair.value → after ≡ proved ++ pair ∷ [] → AreAssumed more.pairs assumed
       → IsBehind (length book.constraints + 1) (length lemmas) more → AreReasoned book lemmas more assumed after
   keeps_step more pair after has grown assumes last = record {
     declared = subst (λ (ps : List Pair). All (λ (p : Pair). Has (initial_of book) p.var p.value) ps) (sym grown) (All-push (λ (p : Pair). Has (initial_of book) p.var p.value) proved pair kept.declared has);
@@ -92,18 +92,3 @@ module _ (book : Contents) (lemmas : List Lemma) (begun : Lemma) (assumed : List
     behind = kept.behind;
     last = last;
   }
-
-  pub keeps_step_assumed : (pair : Pair) (after : List Pair) → Has (initial_of book) pair.var pair.value → after ≡ proved ++ pair ∷ [] → AreReasoned book lemmas begun assumed after
-  keeps_step_assumed pair after has grown = keeps_step begun pair after has grown kept.assumes kept.last
-
-  pub keeps_step_by : (more : Lemma) (pair : Pair) (after : List Pair) (n : ℕ) → Has (initial_of book) pair.var pair.value → after ≡ proved ++ pair ∷ [] → more ≡ noting_constraint begun n
-      → n < length book.constraints + 1 → AreReasoned book lemmas more assumed after
-  keeps_step_by more pair after n has grown noted lt =
-      keeps_step more pair after has grown (subst (λ (l : Lemma). AreAssumed l.pairs assumed) (sym noted) kept.assumes)
-      (subst (λ (l : Lemma). IsBehind (length book.constraints + 1) (length lemmas) l) (sym noted) (noted_constraint (length book.constraints + 1) (length lemmas) begun n kept.last lt))
-
-  pub keeps_step_of_lemma : (more : Lemma) (pair : Pair) (after : List Pair) (k : ℕ) → Has (initial_of book) pair.var pair.value → after ≡ proved ++ pair ∷ [] → more ≡ noting_lemma begun k
-      → (1 ≤ k) × (k ≤ length lemmas) → AreReasoned book lemmas more assumed after
-  keeps_step_of_lemma more pair after k has grown noted early =
-      keeps_step more pair after has grown (subst (λ (l : Lemma). AreAssumed l.pairs assumed) (sym noted) kept.assumes)
-      (subst (λ (l : Lemma). IsBehind (length book.constraints + 1) (length lemmas) l) (sym noted) (noted_lemma (length book.constraints + 1) (length lemmas) begun k kept.last early))

@@ -7,6 +7,7 @@ use Rattle.std.proofs.lemmas.Option.{same_Some}
 use Rattle.palm_base.proofs.cited.Members.{member_nil}
 use Rattle.proof_text.specs.Users.{Uses, by_step, by_lemma}
 use Rattle.proof_text.specs.declared.lemma.Lemma.{Lemma}
+use Rattle.proof_text.proofs.cited.Using.{uses_cases}
 use Rattle.proof_check.specs.Kept.{IsBehind}
 use Rattle.proof_check.specs.Marks.{IsMarked, IsPassed, IsPending, IsUsage, MarksMore, MarksNamed}
 use Rattle.proof_check.specs.declared.marks.Marks.{Marks}
@@ -35,11 +36,6 @@ marks_more before now after numbers number a b = record {
 
 -- ---- what a lemma uses
 
-uses_cases : (lemmas : List Lemma) (lemma : Lemma) (n : ℕ) → Uses lemmas lemma n
-    → Contains lemma.constraints n ⊎ ((k : ℕ) × (l : Lemma) × Contains lemma.lemmas k × (slice_get lemmas (k - 1) ≡ Some l) × Uses lemmas l n)
-uses_cases lemmas _ _ (by_step lemma n m) = inl m
-uses_cases lemmas _ _ (by_lemma lemma l k n m at u) = inr (k, l, m, at, u)
-
 uses_through : (lemmas : List Lemma) (lemma l : Lemma) (place n : ℕ) → Contains lemma.lemmas (place + 1) → slice_get lemmas place ≡ Some l → Uses lemmas l n → Uses lemmas lemma n
 uses_through lemmas lemma l place n m at u =
     let e : place ≡ place + 1 - 1 = omega arith in
@@ -51,17 +47,17 @@ pending : (lemmas : List Lemma) (marks : Marks) (lemma : Lemma) (before : Marks)
 pending lemmas marks lemma before room count n behind named u = elim (uses_cases lemmas lemma n u) [
   | inl m ↦ inl (named.constraints.marks n m)
   | inr r ↦
-      let bounds = All-contains (λ k. (1 ≤ k) × (k ≤ count)) lemma.lemmas r.0 behind.lemmas r.2 in
+      let bounds = All-contains (λ k. (1 ≤ k) × (k ≤ count)) lemma.lemmas r.0 behind.lemmas r.1 in
       let one : 1 ≤ r.0 = bounds.0 in
       let most : r.0 ≤ count = bounds.1 in
       let e : r.0 ≡ r.0 - 1 + 1 = omega (arith, one) in
       inr (record {
         place = r.0 - 1;
         early = omega (arith, one, most);
-        reached = subst (λ (k : ℕ). IsMarked marks.lemmas.items k) e (named.lemmas.marks r.0 r.2);
-        lemma = r.1;
-        stands = r.3;
-        uses = r.4;
+        reached = subst (λ (k : ℕ). IsMarked marks.lemmas.items k) e (named.lemmas.marks r.0 r.1);
+        lemma = r.2.0;
+        stands = r.2.1;
+        uses = r.2.2;
       })
 ]
 

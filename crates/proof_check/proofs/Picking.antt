@@ -1,18 +1,15 @@
 -- The constraints whose numbers are marked, their names, and that they are those that are used.
 use Rattle.std.proofs.Common.{◌≡◌, ℕ, zero, suc, ◌+◌, ◌≤◌, ◌==◌, Bool, true, false, cond, Some, List, [], ◌∷◌, ◌++◌, length, map, filter, take, take_all, inl, inr, refl, sym, ap, ◌∙◌, append-nil, arith}
 use Rattle.std.specs.Prelude.{slice_get}
-use Rattle.std.proofs.lemmas.Bool.{false≢true, true≢false}
+use Rattle.std.proofs.lemmas.Bool.{true≢false}
 use Rattle.std.proofs.lemmas.Bool.Decides.{Decides-eqb, not_from_Decides}
 use Rattle.std.proofs.lemmas.List.{length-take-le, map-append, map_push, take_more}
 use Rattle.std.proofs.lemmas.List.Elements.{filter-append}
 use Rattle.std.proofs.lemmas.Option.{get_or_from_slice_get, none-some, same_Some, slice_get_within}
 use Rattle.palm_base.specs.Tells.{Tells}
-use Rattle.palm_base.specs.declared.terms.Cid.{Cid}
-use Rattle.palm_base.specs.declared.terms.Cid.TheVariants.{User}
 use Rattle.palm_base.proofs.cited.Telling.{tells_both}
 use Rattle.palm_book.specs.Book.{Contents}
 use Rattle.palm_book.specs.declared.book.BookCon.{BookCon}
-use Rattle.proof_text.specs.Draft.{users_of}
 use Rattle.proof_text.specs.Users.{ArePicked, AreUsed, Uses}
 use Rattle.proof_text.specs.declared.lemma.Lemma.{Lemma}
 use Rattle.proof_text.proofs.cited.Using.{picked_once}
@@ -34,16 +31,11 @@ get_middle (y ∷ ys) x rest = get_middle ys x rest
 
 -- ---- what is marked
 
-cond_yes : {X : Type 0} (b : Bool) (x : X) (xs : List X) → b ≡ true → cond b (x ∷ xs) xs ≡ x ∷ xs
-cond_yes true x xs e = refl
-cond_yes false x xs e = absurd (false≢true e)
-
-cond_no : {X : Type 0} (b : Bool) (x : X) (xs : List X) → b ≡ false → cond b (x ∷ xs) xs ≡ xs
-cond_no true x xs e = absurd (true≢false e)
-cond_no false x xs e = refl
-
 marked_one : (marks : List Bool) (c : BookCon) (rest : List BookCon) → is_marked marks c.number ≡ true → marked_in marks (c ∷ rest) ≡ c ∷ marked_in marks rest
-marked_one marks c rest e = cond_yes (is_marked marks c.number) c (marked_in marks rest) e
+marked_one marks c rest e = rw e refl
+
+marked_none : (marks : List Bool) (c : BookCon) → is_marked marks c.number ≡ false → marked_in marks (c ∷ []) ≡ []
+marked_none marks c e = rw e refl
 
 marked_split : (marks : List Bool) (xs ys : List BookCon) → marked_in marks (xs ++ ys) ≡ marked_in marks xs ++ marked_in marks ys
 marked_split marks xs ys = filter-append (λ (c : BookCon). is_marked marks c.number) xs ys
@@ -56,18 +48,19 @@ marked_more marks cs i c at e =
 pub marked_same : (marks : List Bool) (cs : List BookCon) (i : ℕ) (c : BookCon) → slice_get cs i ≡ Some c → is_marked marks c.number ≡ false → marked_in marks (take (i + 1) cs) ≡ marked_in marks (take i cs)
 marked_same marks cs i c at e =
     ap (λ (xs : List BookCon). marked_in marks xs) (take_some cs i c at) ∙ marked_split marks (take i cs) (c ∷ [])
-    ∙ ap (λ (xs : List BookCon). marked_in marks (take i cs) ++ xs) (cond_no (is_marked marks c.number) c [] e) ∙ append-nil (marked_in marks (take i cs))
+    ∙ ap (λ (xs : List BookCon). marked_in marks (take i cs) ++ xs) (marked_none marks c e) ∙ append-nil (marked_in marks (take i cs))
 
-pub users_more : (marks : List Bool) (cs : List BookCon) (i : ℕ) (c : BookCon) (users : List Cid) → slice_get cs i ≡ Some c → is_marked marks c.number ≡ true
-    → users ≡ users_of (marked_in marks (take i cs)) → users ++ User c.number ∷ [] ≡ users_of (marked_in marks (take (i + 1) cs))
-users_more marks cs i c users at e is =
-    ap (λ (us : List Cid). us ++ User c.number ∷ []) is
-    ∙ sym (map_push (λ (d : BookCon). User d.number) (marked_in marks (take i cs)) c)
-    ∙ ap (λ (ds : List BookCon). users_of ds) (sym (marked_more marks cs i c at e))
+-- what is made of each of them, as their users or their names are
+pub made_more : {X : Type 0} (make : BookCon → X) (marks : List Bool) (cs : List BookCon) (i : ℕ) (c : BookCon) (made : List X) → slice_get cs i ≡ Some c → is_marked marks c.number ≡ true
+    → made ≡ map make (marked_in marks (take i cs)) → made ++ make c ∷ [] ≡ map make (marked_in marks (take (i + 1) cs))
+made_more {X = X} make marks cs i c made at e is =
+    ap (λ (xs : List X). xs ++ make c ∷ []) is
+    ∙ sym (map_push make (marked_in marks (take i cs)) c)
+    ∙ ap (λ (ds : List BookCon). map make ds) (sym (marked_more marks cs i c at e))
 
-pub users_same : (marks : List Bool) (cs : List BookCon) (i : ℕ) (c : BookCon) (users : List Cid) → slice_get cs i ≡ Some c → is_marked marks c.number ≡ false
-    → users ≡ users_of (marked_in marks (take i cs)) → users ≡ users_of (marked_in marks (take (i + 1) cs))
-users_same marks cs i c users at e is = is ∙ ap (λ (ds : List BookCon). users_of ds) (sym (marked_same marks cs i c at e))
+pub made_same : {X : Type 0} (make : BookCon → X) (marks : List Bool) (cs : List BookCon) (i : ℕ) (c : BookCon) (made : List X) → slice_get cs i ≡ Some c → is_marked marks c.number ≡ false
+    → made ≡ map make (marked_in marks (take i cs)) → made ≡ map make (marked_in marks (take (i + 1) cs))
+made_same make marks cs i c made at e is = is ∙ ap (λ (ds : List BookCon). map make ds) (sym (marked_same marks cs i c at e))
 
 -- ---- their names
 
@@ -83,17 +76,14 @@ pub named_more : (marks : List Bool) (cs : List BookCon) (names : List (List ℕ
     → AreNamed marks cs names i matched → slice_get names matched ≡ Some c.name → AreNamed marks cs names (i + 1) (matched + 1)
 named_more marks cs names i matched c at e are here = record {
   within = omega (arith, slice_get_within names matched c.name here);
-  named =
-      take_some names matched c.name here ∙ ap (λ (ns : List (List ℕ)). ns ++ c.name ∷ []) are.named
-      ∙ sym (map_push (λ (d : BookCon). d.name) (marked_in marks (take i cs)) c)
-      ∙ ap (λ (ds : List BookCon). map (λ d. d.name) ds) (sym (marked_more marks cs i c at e));
+  named = take_some names matched c.name here ∙ made_more (λ (d : BookCon). d.name) marks cs i c (take matched names) at e are.named;
 }
 
 pub named_same : (marks : List Bool) (cs : List BookCon) (names : List (List ℕ)) (i matched : ℕ) (c : BookCon) → slice_get cs i ≡ Some c → is_marked marks c.number ≡ false
     → AreNamed marks cs names i matched → AreNamed marks cs names (i + 1) matched
 named_same marks cs names i matched c at e are = record {
   within = are.within;
-  named = are.named ∙ ap (λ (ds : List BookCon). map (λ d. d.name) ds) (sym (marked_same marks cs i c at e));
+  named = made_same (λ (d : BookCon). d.name) marks cs i c (take matched names) at e are.named;
 }
 
 pub names_differ : (marks : List Bool) (cs : List BookCon) (names : List (List ℕ)) (i matched : ℕ) (c : BookCon) → slice_get cs i ≡ Some c → is_marked marks c.number ≡ true

@@ -1,5 +1,6 @@
 -- What is answered to the names of the constraints that the last lemma uses.
 use Rattle.std.proofs.Common.{◌≡◌, ◌∙◌, ◌<◌, ◌≤◌, ℕ, Bool, List, [], ◌∷◌, length, map, All, Any, inl, inr, refl, ap, arith}
+use Rattle.std.proofs.lemmas.List.{nil_from_length}
 use Rattle.std.proofs.lemmas.List.Elements.{All-contains}
 use Rattle.palm_base.proofs.cited.Members.{all_known, all_members}
 use Rattle.palm_base.specs.declared.terms.Pair.{Pair}
@@ -33,12 +34,8 @@ module _ (d : Draft) (names : List (List ℕ)) (marks : List Bool) (usage : IsUs
 
   pub these_names : length d.begun.pairs ≤ 0 → names ≡ map (λ c. c.name) (marked_in marks d.book.constraints) → AreUsers d names
   these_names none named = record {
-    free = no_members d.begun.pairs none;
+    free = nil_from_length d.begun.pairs (omega (arith, none));
     used = marked_in marks d.book.constraints;
     are_used = marked_used d.book d.lemmas d.begun marks usage;
     named = named;
   }
-    where
-      no_members : (ps : List Pair) → length ps ≤ 0 → ps ≡ []
-      no_members [] le = refl
-      no_members (p ∷ ps) le = absurd (omega (arith, le))

@@ -49,12 +49,6 @@ pub record Puts (before after : List (Option ℤ)) (x : ℕ) (value : Option ℤ
   pub here : assumed_at after x ≡ value
   pub others : (y : ℕ) → (y ≡ x → ⊥) → assumed_at after y ≡ assumed_at before y
 
--- nothing is assumed for the variables of these pairs, nor for those for which nothing was
-pub record Forgets (before after : List (Option ℤ)) (pairs : List Pair) : Type 0 where
-  pub long : length after ≡ length before
-  pub gone : (p : Pair) → Contains pairs p → assumed_at after p.var ≡ None
-  pub only : (x : ℕ) (v : ℤ) → assumed_at after x ≡ Some v → assumed_at before x ≡ Some v
-
 -- ---- what holds between lines
 
 -- the lemma names constraints with numbers below the room, and lemmas of which so many stand before it

@@ -1,7 +1,7 @@
 //! The pairs that a lemma assumes, found by their variables: the value that is assumed for each variable, if any.
-ghost use Rattle.std.specs.Prelude.{◌≡◌, ◌<◌, Some, length, All};
+ghost use Rattle.std.specs.Prelude.{◌≡◌, ◌<◌, Some, length};
 ghost use Rattle.palm_base.specs.Tells.{Tells};
-ghost use Rattle.proof_check.specs.Kept.{Forgets, IsOther, Puts, assumed_at};
+ghost use Rattle.proof_check.specs.Kept.{IsOther, Puts, assumed_at};
 
 use palm_base::{Pair, Value, Var};
 
@@ -35,14 +35,4 @@ pub fn put(assumed: &mut [Option<Value>], var: Var, value: Option<Value>)
     ensures { Puts assumed.old assumed.new var value }
 {
     assumed[var.0 as usize] = value;
-}
-
-/// Assumes none of the pairs.
-pub fn forget(assumed: &mut [Option<Value>], pairs: &[Pair])
-    requires { All (λ p. p.var < length assumed.old) pairs.now }
-    ensures { Forgets assumed.old assumed.new pairs.now }
-{
-    for pair in pairs {
-        put(assumed, pair.var, None);
-    }
 }

@@ -1,7 +1,6 @@
 //! What is kept of a proof besides what it lists: how far it has come, the lemmas that are done, and of the lemma begun what it
 //! assumes, what its steps name and the pairs that they proved.
 ghost use Rattle.std.specs.Prelude.{◌≡◌, [], All, IfOk, OnOk};
-ghost use Rattle.palm_base.specs.Tells.{Tells};
 ghost use Rattle.palm_book.specs.Book.{Contents, initial_of};
 ghost use Rattle.palm_claim.specs.Statement.{IsStepNumber};
 ghost use Rattle.palm_claim.specs.declared.ground.Ground.TheVariants as Ground;
@@ -9,23 +8,25 @@ ghost use Rattle.palm_model.specs.Domains.{Has};
 ghost use Rattle.proof_check.specs.Kept.{AssumesOrNot, IsReasoned, IsKept, TakesGround, TakesPhrase, said};
 ghost use Rattle.proof_text.specs.Draft.{MayFollow, with_lemma, with_wipe};
 ghost use Rattle.proof_text.specs.Statement.{IsGroundInRange, IsLemmaNumber};
+ghost use Rattle.proof_text.specs.Users.{AreOfTheirBook};
+ghost use Rattle.proof_text.specs.Verdict.{IsVerdict};
 ghost use Rattle.proof_text.specs.declared.statement.ProofPhrase.TheVariants as phrases;
 ghost use Rattle.proof_text.specs.declared.statement.Stage.TheVariants as Stage;
 
-use crate::assumed::{forget, is_other_assumed, put, value_of};
+use crate::assumed::{is_other_assumed, put, value_of};
 use crate::lemmas::{copy_lemma, is_by_others, unproved_lemma};
 use crate::marks::usage;
-use crate::phrases::read_phrase;
+use crate::phrases::{NamedPairs, step};
 use crate::users::{are_listed, are_names, marked_users};
 use palm_base::{NoMemory, Pair, Value};
 use palm_book::Book;
-use palm_claim::{Cause, Ground, Statement};
+use palm_claim::{Cause, Ground};
 use palm_listed::Listed;
 use palm_read::{Cursor, LineError, Name};
 use proof_text::{Lemma, LemmaList, NamedPair, PairList, ProofPhrase, ProofVerdict, Stage};
 use std::alloc::Global;
 use std::mem;
-use text_check::{Body, check_step, check_wiped};
+use text_check::{Body, FirstCause, check_step, check_text, check_wiped, read_header, read_items};
 
 /// What is kept of a proof besides what it lists.
 #[derive(Drop)]
@@ -35,10 +36,10 @@ pub struct ProofBody {
     lemmas: LemmaList,
     /// The lemma begun: what it assumes, and what its steps name.
     begun: Lemma,
-    /// The pairs of the lemma begun, by their variables.
-    assumed: Vec<Option<Value>>,
     /// The pair that each step of the lemma begun proved.
     proved: Vec<Pair>,
+    /// The pairs of the lemma begun, by their variables.
+    assumed: Vec<Option<Value>>,
 }
 
 impl Body for ProofBody {
@@ -48,55 +49,85 @@ impl Body for ProofBody {
     ghost use Rattle.proof_text.specs.Verdict.{of_proofs};
     ghost use Rattle.std.specs.Prelude.{refl};
 
-    type Phrase = ProofPhrase;
-
-    type Verdict = ProofVerdict;
-
     ghost Text = { drafts.Draft };
-
-    ghost own = { of_proofs };
-
-    ghost blank = { drafts.blank };
 
     ghost draft = { said };
 
-    ghost keeps = { IsReasoned };
-
-    ghost are_phrases = { spelled_phrases };
+    ghost blank = { drafts.blank };
 
     ghost of_book = { λ book body. refl };
-
-    fn is_lead(word: &[u8]) -> bool {
-        word == b"step".as_slice()
-            || word == b"lemma".as_slice()
-            || word == b"wipe".as_slice()
-            || word == b"none".as_slice()
-            || word == b"end".as_slice()
-            || word == b"palm".as_slice()
-    }
-
-    fn read(cursor: &mut Cursor<'_>, alloc: Global) -> Result<ProofPhrase, LineError> {
-        read_phrase(cursor, alloc)
-    }
 
     fn new(alloc: Global) -> ProofBody {
         ProofBody {
             stage: Stage::Unopened,
             lemmas: LemmaList::new(alloc),
             begun: unproved_lemma(alloc, PairList::new(alloc)),
-            assumed: Vec::new(alloc),
             proved: Vec::new(alloc),
+            assumed: Vec::new(alloc),
         }
     }
 
-    fn may_stand(&self, statement: &Statement<ProofPhrase>) -> bool {
-        match statement {
-            Statement::Comment => true,
-            Statement::Variable { .. } => matches!(self.stage, Stage::Declaring),
-            Statement::Constraint { .. } => matches!(self.stage, Stage::Declaring | Stage::Listing),
-            Statement::Phrase(phrase) => may_follow(&self.stage, phrase),
+    type Verdict = ProofVerdict;
+
+    fn ending(self, book: Book, line: u64) -> ProofVerdict {
+        let ProofBody { stage, .. } = self;
+        match stage {
+            Stage::Closed(users) => ProofVerdict::Accepted { book, users },
+            _ => Self::refused(line, Cause::NotReached),
         }
     }
+
+    fn refused(line: u64, cause: Cause) -> ProofVerdict {
+        ProofVerdict::Refused { line, cause }
+    }
+
+    type Phrase = ProofPhrase;
+
+    ghost own = { of_proofs };
+
+    ghost are_phrases = { spelled_phrases };
+
+    #[tactic(auto, unfolding(proof_text::specs::Reader::phrase_at, proof_text::specs::Reader::lemma_at, proof_text::specs::Reader::wipe_at, proof_text::specs::Reader::users_at, palm_read::specs::Reader::Steps::when, palm_read::specs::Reader::Steps::and_then))]
+    fn read(cursor: &mut Cursor<'_>, alloc: Global) -> Result<ProofPhrase, LineError> {
+        if cursor.takes_word(b"step") {
+            step(cursor, alloc)
+        } else if cursor.takes_word(b"lemma") {
+            Ok(ProofPhrase::Lemma(read_items::<NamedPairs>(cursor, alloc)?))
+        } else if cursor.takes_word(b"wipe") {
+            Ok(ProofPhrase::Wipe(cursor.owned_name(alloc)?))
+        } else if cursor.takes_word(b"none") {
+            Ok(ProofPhrase::Users(cursor.names(alloc, 0)?))
+        } else if cursor.takes_word(b"end") {
+            Ok(ProofPhrase::End)
+        } else {
+            read_header(cursor, b"proof")?;
+            Ok(ProofPhrase::Header)
+        }
+    }
+
+    fn may_follow(&self, phrase: &ProofPhrase) -> bool {
+        match phrase {
+            ProofPhrase::Header => matches!(self.stage, Stage::Unopened),
+            ProofPhrase::Lemma(_) => {
+                matches!(self.stage, Stage::Declaring | Stage::Listing | Stage::Wiped)
+            }
+            ProofPhrase::Step { .. } | ProofPhrase::Wipe(_) => {
+                matches!(self.stage, Stage::Reasoning)
+            }
+            ProofPhrase::Users(_) => matches!(self.stage, Stage::Wiped),
+            ProofPhrase::End => matches!(self.stage, Stage::Told(_)),
+        }
+    }
+
+    fn may_declare(&self) -> bool {
+        matches!(self.stage, Stage::Declaring)
+    }
+
+    fn may_list(&self) -> bool {
+        matches!(self.stage, Stage::Declaring | Stage::Listing)
+    }
+
+    ghost keeps = { IsReasoned };
 
     /// Nothing is assumed for the variable.
     fn declared(&mut self) -> Result<(), NoMemory> {
@@ -108,12 +139,7 @@ impl Body for ProofBody {
         self.stage = Stage::Listing;
     }
 
-    fn take(
-        &mut self,
-        alloc: Global,
-        listed: &mut Listed,
-        phrase: ProofPhrase,
-    ) -> Result<Option<Cause>, NoMemory> {
+    fn take(&mut self, alloc: Global, listed: &mut Listed, phrase: ProofPhrase) -> FirstCause {
         match phrase {
             ProofPhrase::Header => {
                 self.stage = Stage::Declaring;
@@ -136,34 +162,17 @@ impl Body for ProofBody {
             }
         }
     }
-
-    fn ending(self, book: Book, line: u64) -> ProofVerdict {
-        let ProofBody { stage, .. } = self;
-        match stage {
-            Stage::Closed(users) => ProofVerdict::Accepted { book, users },
-            _ => Self::refused(line, Cause::NotReached),
-        }
-    }
-
-    fn refused(line: u64, cause: Cause) -> ProofVerdict {
-        ProofVerdict::Refused { line, cause }
-    }
 }
 
 impl ProofBody {
     /// Takes the first line of a lemma.
-    fn begin(
-        &mut self,
-        alloc: Global,
-        listed: &Listed,
-        named: &[NamedPair],
-    ) -> Result<Option<Cause>, NoMemory>
+    fn begin(&mut self, alloc: Global, listed: &Listed, named: &[NamedPair]) -> FirstCause
         requires stands { MayFollow self.old.stage (phrases.Lemma named.now) }
         requires kept { IsKept listed.now self.old }
         ensures takes { IfOk result (λ cause. TakesPhrase (said listed.now.book self.old) (phrases.Lemma named.now) cause (said listed.now.book self.new)) }
         ensures kept { OnOk result (IsKept listed.now self.new) }
     {
-        self.clear(alloc);
+        self.clear(alloc)?;
         for pair in named {
             if !self.assume(listed, &pair.name, pair.value)? {
                 return Ok(Some(Cause::Misdeclared));
@@ -173,16 +182,15 @@ impl ProofBody {
     }
 
     /// Begins a lemma that assumes nothing.
-    fn clear(&mut self, alloc: Global)
-        requires { (book : Contents) × IsReasoned book self.old }
-        ensures begun { (book : Contents)
-            → said book self.new ≡ with_lemma (said book self.old) [] }
-        ensures kept { (book : Contents) → IsReasoned book self.old → IsReasoned book self.new }
+    fn clear(&mut self, alloc: Global) -> Result<(), NoMemory>
+        ensures begun { OnOk result ((book : Contents) → said book self.new ≡ with_lemma (said book self.old) []) }
+        ensures kept { OnOk result ((book : Contents) → IsReasoned book self.old → IsReasoned book self.new) }
     {
-        forget(&mut self.assumed, self.begun.pairs.as_slice());
+        self.assumed = vec![in alloc; None; self.assumed.len()]?;
         self.begun = unproved_lemma(alloc, PairList::new(alloc));
         self.proved.clear();
         self.stage = Stage::Reasoning;
+        Ok(())
     }
 
     /// Assumes the pair with the name and the value too. It must be declared, and nothing be assumed for its variable.
@@ -194,12 +202,14 @@ impl ProofBody {
         let Some(pair) = listed.declared_pair(name, value) else {
             return Ok(false);
         };
-        if value_of(&self.assumed, pair.var).is_some() {
-            return Ok(false);
+        match value_of(&self.assumed, pair.var) {
+            Some(_) => Ok(false),
+            None => {
+                self.begun.pairs.push(pair.copy())?;
+                put(&mut self.assumed, pair.var, Some(pair.value));
+                Ok(true)
+            }
         }
-        self.begun.pairs.push(pair.copy())?;
-        put(&mut self.assumed, pair.var, Some(pair.value));
-        Ok(true)
     }
 
     /// Takes a step.
@@ -210,7 +220,7 @@ impl ProofBody {
         name: &Name,
         value: Value,
         basis: &Ground,
-    ) -> Result<Option<Cause>, NoMemory>
+    ) -> FirstCause
         requires stands { self.old.stage ≡ Stage.Reasoning }
         requires range { IsGroundInRange basis.now }
         requires kept { IsKept listed.old self.old }
@@ -238,7 +248,7 @@ impl ProofBody {
         pair: Pair,
         by: &Name,
         reasons: &[u32],
-    ) -> Result<Option<Cause>, NoMemory>
+    ) -> FirstCause
         requires stands { self.old.stage ≡ Stage.Reasoning }
         requires declared { Has (initial_of listed.old.book) pair.var pair.value }
         requires range { All IsStepNumber reasons.now }
@@ -258,7 +268,7 @@ impl ProofBody {
     }
 
     /// Takes a step of a declared pair by what is assumed.
-    fn prove_assumed(&mut self, listed: &Listed, pair: Pair) -> Result<Option<Cause>, NoMemory>
+    fn prove_assumed(&mut self, listed: &Listed, pair: Pair) -> FirstCause
         requires stands { self.old.stage ≡ Stage.Reasoning }
         requires declared { Has (initial_of listed.now.book) pair.var pair.value }
         requires kept { IsKept listed.now self.old }
@@ -274,12 +284,7 @@ impl ProofBody {
     }
 
     /// Takes a step of a declared pair by a lemma.
-    fn prove_of_lemma(
-        &mut self,
-        listed: &Listed,
-        pair: Pair,
-        number: u64,
-    ) -> Result<Option<Cause>, NoMemory>
+    fn prove_of_lemma(&mut self, listed: &Listed, pair: Pair, number: u64) -> FirstCause
         requires stands { self.old.stage ≡ Stage.Reasoning }
         requires declared { Has (initial_of listed.now.book) pair.var pair.value }
         requires range { IsLemmaNumber number }
@@ -300,7 +305,7 @@ impl ProofBody {
     }
 
     /// Takes the wipe of a variable, with which the lemma begun is done.
-    fn wipe(&mut self, listed: &mut Listed, name: &Name) -> Result<Option<Cause>, NoMemory>
+    fn wipe(&mut self, listed: &mut Listed, name: &Name) -> FirstCause
         requires stands { self.old.stage ≡ Stage.Reasoning }
         requires kept { IsKept listed.old self.old }
         ensures takes { IfOk result (λ cause. TakesPhrase (said listed.old.book self.old) (phrases.Wipe name.now) cause (said listed.new.book self.new)) }
@@ -327,12 +332,7 @@ impl ProofBody {
     }
 
     /// Takes the names of the constraints that the last lemma uses.
-    fn tell(
-        &mut self,
-        alloc: Global,
-        listed: &Listed,
-        names: &[Name],
-    ) -> Result<Option<Cause>, NoMemory>
+    fn tell(&mut self, alloc: Global, listed: &Listed, names: &[Name]) -> FirstCause
         requires stands { self.old.stage ≡ Stage.Wiped }
         requires kept { IsKept listed.now self.old }
         ensures takes { IfOk result (λ cause. TakesPhrase (said listed.now.book self.old) (phrases.Users names.now) cause (said listed.now.book self.new)) }
@@ -354,15 +354,11 @@ impl ProofBody {
     }
 }
 
-/// Whether the phrase may stand behind the lines so far.
-fn may_follow(stage: &Stage, phrase: &ProofPhrase) -> bool
-    ensures { Tells result (MayFollow stage.now phrase.now) }
+/// The verdict on a text: that it is a proof, and the constraints that it proves to have no solution, or its first line
+/// that has a cause. A text may be of any length.
+pub fn check_proof(alloc: Global, bytes: &[u8]) -> Result<ProofVerdict, NoMemory>
+    ensures verdict { IfOk result (IsVerdict bytes.now) }
+    ensures named { IfOk result AreOfTheirBook }
 {
-    match phrase {
-        ProofPhrase::Header => matches!(stage, Stage::Unopened),
-        ProofPhrase::Lemma(_) => matches!(stage, Stage::Declaring | Stage::Listing | Stage::Wiped),
-        ProofPhrase::Step { .. } | ProofPhrase::Wipe(_) => matches!(stage, Stage::Reasoning),
-        ProofPhrase::Users(_) => matches!(stage, Stage::Wiped),
-        ProofPhrase::End => matches!(stage, Stage::Told(_)),
-    }
+    check_text::<ProofBody>(alloc, bytes)
 }

@@ -8,7 +8,6 @@ mod lemmas;
 mod marks;
 mod phrases;
 mod users;
-mod verdict;
 
+pub use body::check_proof;
 pub use proof_text::{Cause, ProofVerdict};
-pub use verdict::check_proof;

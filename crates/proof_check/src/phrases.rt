@@ -1,39 +1,16 @@
-//! Reading the phrases of proofs.
-ghost use Rattle.std.specs.Prelude.{option_map};
+//! Reading steps and pairs.
 ghost use Rattle.palm_read.specs.Reader.Held.{Gives};
-ghost use Rattle.palm_read.specs.Reader.Lists.{many_at};
-ghost use Rattle.proof_text.specs.Reader.{ground_at, next_pair, of_lemma_at, phrase_at, step_at};
+ghost use Rattle.proof_text.specs.Reader.{ground_at, of_lemma_at, step_at};
 
 use palm_claim::Ground;
 use palm_read::{Cursor, LineError, Name};
-use proof_text::{NamedPair, NamedPairList, ProofPhrase};
+use proof_text::{NamedPair, ProofPhrase};
 use std::alloc::Global;
-use text_check::{number_up_to, read_header, read_reasons, read_value};
-
-/// Reads a phrase by its first word.
-#[tactic(auto, unfolding(proof_text::specs::Reader::phrase_at, proof_text::specs::Reader::lemma_at, proof_text::specs::Reader::wipe_at, proof_text::specs::Reader::users_at, palm_read::specs::Reader::Steps::when, palm_read::specs::Reader::Steps::and_then))]
-pub fn read_phrase(cursor: &mut Cursor<'_>, alloc: Global) -> Result<ProofPhrase, LineError>
-    ensures { Gives (λ phrase. phrase) result cursor.new (phrase_at cursor.old) }
-{
-    if cursor.takes_word(b"step") {
-        step(cursor, alloc)
-    } else if cursor.takes_word(b"lemma") {
-        Ok(ProofPhrase::Lemma(pairs(cursor, alloc)?))
-    } else if cursor.takes_word(b"wipe") {
-        Ok(ProofPhrase::Wipe(cursor.owned_name(alloc)?))
-    } else if cursor.takes_word(b"none") {
-        Ok(ProofPhrase::Users(cursor.names(alloc, 0)?))
-    } else if cursor.takes_word(b"end") {
-        Ok(ProofPhrase::End)
-    } else {
-        read_header(cursor, b"proof")?;
-        Ok(ProofPhrase::Header)
-    }
-}
+use text_check::{Items, number_up_to, read_reasons, read_value};
 
 /// Reads a name, a value and why the step takes the pair out.
 #[tactic(auto, unfolding(proof_text::specs::Reader::step_at, palm_read::specs::Reader::Steps::and_then))]
-fn step(cursor: &mut Cursor<'_>, alloc: Global) -> Result<ProofPhrase, LineError>
+pub fn step(cursor: &mut Cursor<'_>, alloc: Global) -> Result<ProofPhrase, LineError>
     ensures { Gives (λ phrase. phrase) result cursor.new (step_at cursor.old) }
 {
     let name = cursor.owned_name(alloc)?;
@@ -77,27 +54,28 @@ fn of_lemma(cursor: &mut Cursor<'_>) -> Result<Ground, LineError>
     }
 }
 
-/// Reads pairs, as long as a name stands in front.
-fn pairs(cursor: &mut Cursor<'_>, alloc: Global) -> Result<NamedPairList, LineError>
-    ensures { Gives (λ pairs. pairs) result cursor.new (many_at next_pair cursor.old) }
-{
-    let mut pairs = NamedPairList::new(alloc);
-    while let Some(pair) = next_pair(cursor, alloc)? {
-        pairs.push(pair)?;
-    }
-    Ok(pairs)
-}
+/// Pairs of names and values, with `=` between them.
+pub struct NamedPairs;
 
-/// Reads a name, `=` and a value, if a name stands in front.
-#[tactic(auto, unfolding(proof_text::specs::Reader::next_pair, palm_read::specs::Reader::Steps::and_then, palm_read::specs::Reader::Steps::when))]
-fn next_pair(cursor: &mut Cursor<'_>, alloc: Global) -> Result<Option<NamedPair>, LineError>
-    ensures { Gives (option_map (λ pair. pair)) result cursor.new (next_pair cursor.old) }
-{
-    let Some(text) = cursor.name() else {
-        return Ok(None);
-    };
-    let name = Name::from_slice(alloc, text)?;
-    cursor.sign(b"=")?;
-    let value = read_value(cursor)?;
-    Ok(Some(NamedPair { name, value }))
+impl Items for NamedPairs {
+    ghost use Rattle.palm_read.proofs.cited.Many.{item_shortens};
+    ghost use Rattle.proof_text.proofs.cited.Phrases.{pair_item};
+    ghost use Rattle.proof_text.specs.Reader.{next_pair};
+
+    #[tactic(auto, unfolding(proof_text::specs::Reader::next_pair, palm_read::specs::Reader::Steps::and_then, palm_read::specs::Reader::Steps::when))]
+    fn next(cursor: &mut Cursor<'_>, alloc: Global) -> Result<Option<NamedPair>, LineError> {
+        let Some(text) = cursor.name() else {
+            return Ok(None);
+        };
+        let name = Name::from_slice(alloc, text)?;
+        cursor.sign(b"=")?;
+        let value = read_value(cursor)?;
+        Ok(Some(NamedPair { name, value }))
+    }
+
+    ghost next_at = { next_pair };
+
+    ghost shortens = { item_shortens pair_item };
+
+    type Item = NamedPair;
 }

@@ -34,6 +34,7 @@ use Rattle.palm_cert.proofs.cited.Reached.{values_same}
 use Rattle.palm_cert.proofs.cited.Saying.{value_within, words_from}
 use Rattle.palm_search.proofs.cited.Weighing.{distinct_below}
 use Rattle.palm_claim.specs.Phrases.{header_of}
+use Rattle.palm_claim.proofs.cited.Phrases.{header_spelled}
 use Rattle.proof_text.specs.Statement.{IsGroundInRange, Says, ground_pieces, lemma_pieces, pair_pieces, step_pieces, users_pieces, wipe_pieces}
 use Rattle.proof_text.specs.declared.statement.NamedPair.{NamedPair}
 use Rattle.palm_claim.specs.declared.statement.Statement.TheVariants.{Phrase}
@@ -75,7 +76,7 @@ unfolding tokens_of kind_at more_at lexeme_at
 header_tokens = refl
 
 pub header_says : Says (codes "palm-proof 1") (Phrase Header)
-header_says = (record { short = omega arith; says = refl; plain = AllPass-from_list_all is_plain (codes "palm-proof 1") refl }, header_tokens, tt)
+header_says = (record { short = omega arith; says = refl; plain = AllPass-from_list_all is_plain (codes "palm-proof 1") refl }, header_spelled (codes "proof") (tokens_of (codes "palm-proof 1")) header_tokens, tt)
 
 -- a line of words that are no note
 line_plain : {n : ℕ} (words : List (List ℕ)) (ps : List Piece) → Words n words ps → length (spaced words) ≤ 65536 → is_note (after_blanks (spaced words)) ≡ false → IsPlain (spaced words)

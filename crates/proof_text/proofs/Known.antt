@@ -20,12 +20,11 @@ use Rattle.palm_claim.specs.Step.{Given, IsAssumed, IsOfLemma, IsReached, IsRigh
 use Rattle.palm_claim.specs.declared.ground.Ground.{Ground}
 use Rattle.palm_claim.specs.declared.ground.Ground.TheVariants.{By, Assumed, OfLemma}
 use Rattle.palm_claim.specs.declared.verdict.Cause.{Cause}
-use Rattle.palm_claim.specs.declared.verdict.Cause.TheVariants.{Malformed, Misdeclared, Beyond, Unproved, NotRight, NotReached}
 use Rattle.palm_claim.specs.declared.verdict.Claim.TheVariants.{Conflict}
 use Rattle.palm_claim.proofs.cited.Asked.{asked_of_pair, asked_of_variable, constraint_known, declared_known, known_never, pair_known, pair_with, reached_known, right_known, settled, variable_known}
 use Rattle.palm_claim.proofs.cited.Judged.{has_verdict}
-use Rattle.palm_claim.proofs.cited.Listing.{ArePhrasesKnown, NamesApart, is_known, leads_apart, none_apart}
-use Rattle.proof_text.specs.Draft.{ArePairs, Draft, Leads, MayFollow, MayList, MayStand, Notes, at_stage, blank, given_in, users_of, with_lemma, with_step, with_wipe}
+use Rattle.palm_claim.proofs.cited.Listing.{ArePhrasesKnown, NamesApart, is_known, leads_apart, meets_by_known, none_apart}
+use Rattle.proof_text.specs.Draft.{ArePairs, Draft, Leads, MayFollow, MayList, Notes, at_stage, blank, given_in, users_of, with_lemma, with_step, with_wipe}
 use Rattle.proof_text.specs.Statement.{IsGroundInRange, Says}
 use Rattle.proof_text.specs.Users.{Uses}
 use Rattle.proof_text.specs.Verdict.{AreApart, AreUsers, HasUnproved, IsMisdeclared, IsNotReached, IsNotRight, IsUnknownGround, IsUnprovedGround, IsVerdict, Meets, MeetsPhrase, of_proofs, proofs}
@@ -41,7 +40,7 @@ use Rattle.proof_text.specs.declared.verdict.ProofVerdict.{ProofVerdict}
 use Rattle.proof_text.proofs.cited.Phrases.{are_phrases}
 use Rattle.proof_text.proofs.cited.Unique.{proofs_keep}
 use Rattle.proof_text.proofs.cited.Using.{AreEarlier, IsUpTo, earlier_more, has_picked, none_earlier, picked_once, up_to_more, uses_known}
-use Rattle.proof_text.proofs.Stages.{is_declaring, is_reasoning, is_unopened, is_wiped}
+use Rattle.proof_text.proofs.cited.Accepted.{stage_known}
 
 -- ---- the order of the lines
 
@@ -51,22 +50,16 @@ listing_known Listing = inl tt
 listing_known _ = known_never
 
 follow_known : (stage : Stage) (s : ProofPhrase) → Known (MayFollow stage s)
-follow_known stage Header = is_unopened stage
+follow_known stage Header = (stage_known stage).0
 follow_known Declaring (LemmaLine named) = inl tt
 follow_known Listing (LemmaLine named) = inl tt
 follow_known Wiped (LemmaLine named) = inl tt
 follow_known _ (LemmaLine named) = known_never
-follow_known stage (Step name value ground) = is_reasoning stage
-follow_known stage (Wipe name) = is_reasoning stage
-follow_known stage (Users names) = is_wiped stage
+follow_known stage (Step name value ground) = (stage_known stage).2
+follow_known stage (Wipe name) = (stage_known stage).2
+follow_known stage (Users names) = (stage_known stage).3
 follow_known (Told users) End = inl tt
 follow_known _ End = known_never
-
-stand_known : (stage : Stage) (s : Statement ProofPhrase) → Known (MayStand stage s)
-stand_known stage Comment = inl tt
-stand_known stage (Variable name domain) = is_declaring stage
-stand_known stage (Constraint name shape) = listing_known stage
-stand_known stage (Phrase phrase) = follow_known stage phrase
 
 -- ---- declarations
 
@@ -214,12 +207,8 @@ not_reached_known d _ keeps = known_never
 -- ---- a line
 
 meets_known : (d : Draft) (s : ProofPhrase) → Keeps d → (cause : Cause) → Known (MeetsPhrase d s cause)
-meets_known d s keeps Malformed = known_never
-meets_known d s keeps Misdeclared = misdeclared_known d s
-meets_known d s keeps Beyond = known_never
-meets_known d s keeps Unproved = unproved_known d s
-meets_known d s keeps NotRight = not_right_known d s keeps.names.variables
-meets_known d s keeps NotReached = not_reached_known d s keeps
+meets_known d s keeps =
+    meets_by_known IsMisdeclared HasUnproved IsNotRight IsNotReached d s (misdeclared_known d s) (unproved_known d s) (not_right_known d s keeps.names.variables) (not_reached_known d s keeps)
 
 told_end : (stage : Stage) → ((MayFollow stage End → ⊥) → ⊥) → (users : List Cid) × (stage ≡ Told users)
 told_end (Told users) twice = (users, refl)
@@ -260,7 +249,9 @@ leads_on d End keeps none = let users = told_end d.stage none.0 in (at_stage d (
 
 phrases_known : ArePhrasesKnown of_proofs Keeps
 phrases_known = record {
-  may_stand = λ d s. stand_known d.stage s;
+  declares = λ d. (stage_known d.stage).1;
+  lists = λ d. listing_known d.stage;
+  follows = λ d s. follow_known d.stage s;
   meets = meets_known;
   leads = leads_on;
 }

@@ -2,5 +2,4 @@ pub mod cited
 pub mod Excluding
 pub mod Grounds
 pub mod Known
-pub mod Stages
 pub mod Steps

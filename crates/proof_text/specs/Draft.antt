@@ -1,18 +1,15 @@
 -- What the lines of a proof have said so far, which lines may follow, and what each adds.
-use Rattle.std.specs.Prelude.{◌≡◌, ℕ, ℤ, List, [], ◌∷◌, ◌++◌, map, Contains, ⊤}
+use Rattle.std.specs.Prelude.{◌≡◌, List, [], ◌∷◌, ◌++◌, map, Contains, ⊤}
 use Rattle.palm_base.specs.declared.terms.Pair.{Pair}
 use Rattle.palm_base.specs.declared.terms.Cid.{Cid}
 use Rattle.palm_base.specs.declared.terms.Cid.TheVariants.{User}
-use Rattle.palm_book.specs.Book.{BookVar, Contents, with_listed}
-use Rattle.palm_book.specs.Book as in_book
+use Rattle.palm_book.specs.Book.{BookVar, Contents}
 use Rattle.palm_book.specs.Named.{IsPair}
 use Rattle.palm_book.specs.declared.book.BookCon.{BookCon}
-use Rattle.palm_model.specs.declared.constraint.Con.{Con}
+use Rattle.palm_claim.specs.Own.{Books, Order}
 use Rattle.palm_claim.specs.Step.{Given}
 use Rattle.palm_claim.specs.declared.ground.Ground.{Ground}
 use Rattle.palm_claim.specs.declared.ground.Ground.TheVariants.{By, Assumed, OfLemma}
-use Rattle.palm_claim.specs.declared.statement.Statement.{Statement}
-use Rattle.palm_claim.specs.declared.statement.Statement.TheVariants.{Comment, Variable, Constraint, Phrase}
 use Rattle.proof_text.specs.Users.{AreUsed}
 use Rattle.proof_text.specs.declared.lemma.Lemma.{Lemma}
 use Rattle.proof_text.specs.declared.statement.NamedPair.{NamedPair}
@@ -37,6 +34,14 @@ unproved pairs = record { pairs = pairs; constraints = []; lemmas = [] }
 -- nothing was said
 abbrev pub blank : Draft
 blank = record { stage = Unopened; book = record { variables = []; constraints = [] }; lemmas = []; begun = unproved []; proved = [] }
+
+-- the book of a draft, and the draft with a longer one behind a variable or a constraint
+abbrev pub books : Books Draft
+books = record {
+  book = λ d. d.book;
+  declared = λ d book. record d { book = book };
+  listed = λ d book. record d { stage = Listing; book = book };
+}
 
 -- what is given to the steps of the lemma begun
 abbrev pub given_in : Draft → Given
@@ -64,20 +69,15 @@ MayFollow stage (Users names) = stage ≡ Wiped
 MayFollow (Told users) End = ⊤
 MayFollow stage End = ⊥
 
--- so may a line that says this
-abbrev pub MayStand : Stage → Statement ProofPhrase → Type 0
-MayStand stage Comment = ⊤
-MayStand stage (Variable name domain) = stage ≡ Declaring
-MayStand stage (Constraint name shape) = MayList stage
-MayStand stage (Phrase phrase) = MayFollow stage phrase
+-- and the draft decides by its stage
+abbrev pub order : Order Draft ProofPhrase
+order = record {
+  MayDeclare = λ d. d.stage ≡ Declaring;
+  MayList = λ d. MayList d.stage;
+  MayFollow = λ d phrase. MayFollow d.stage phrase;
+}
 
--- ---- what a line adds
-
-abbrev pub with_variable : Draft → List ℕ → List ℤ → Draft
-with_variable d name values = record d { book = in_book.with_variable d.book name values }
-
-abbrev pub with_constraint : Draft → List ℕ → Con → Draft
-with_constraint d name con = record d { stage = Listing; book = with_listed d.book name con }
+-- ---- what is behind a line
 
 abbrev pub with_lemma : Draft → List Pair → Draft
 with_lemma d pairs = record d { stage = Reasoning; begun = unproved pairs; proved = [] }

@@ -1,6 +1,5 @@
 -- Readers of the forms that only proofs have. That they read just these forms is proved of them.
-use Rattle.std.specs.Prelude.{ℕ, Bool, ◌||◌, Option, Some, None, List, codes}
-use Rattle.std.specs.Str.{bytes_eq}
+use Rattle.std.specs.Prelude.{ℕ, Bool, Option, Some, None, List, codes}
 use Rattle.palm_read.specs.Piece.{digits_number}
 use Rattle.palm_read.specs.Reader.Lists.{many_at, names_at}
 use Rattle.palm_read.specs.Reader.Steps.{Reading, ◌>>=◌, when, choose, token_at, keyword_at, mark_at, name_at}
@@ -86,13 +85,3 @@ phrase_at tokens =
     (do
       rest ← header_at (codes "proof") tokens
       Some (Header, rest))))))
-
--- the first words of these forms
-abbrev pub is_lead : List ℕ → Bool
-is_lead w =
-    bytes_eq w (codes "step")
-    || (bytes_eq w (codes "lemma")
-    || (bytes_eq w (codes "wipe")
-    || (bytes_eq w (codes "none")
-    || (bytes_eq w (codes "end")
-    || bytes_eq w (codes "palm")))))

@@ -1,17 +1,16 @@
 -- What a line of a proof says: its phrases are those of this file.
-use Rattle.std.specs.Prelude.{◌≡◌, ℕ, ℤ, List, [], ◌∷◌, map, flat_map, All, codes, ⊤}
+use Rattle.std.specs.Prelude.{ℕ, ℤ, List, [], ◌∷◌, map, flat_map, All, codes, ⊤}
 use Rattle.palm_model.specs.Limits.{IsValue}
 use Rattle.palm_read.specs.Bounds.{IsFromOneTo}
-use Rattle.palm_read.specs.Piece.{Piece, Keyword, Named, Mark, Integer, Natural, Spells}
-use Rattle.palm_read.specs.Token.{Lexeme}
+use Rattle.palm_read.specs.Piece.{Piece, Keyword, Named, Mark, Integer, Natural}
 use Rattle.palm_claim.specs.Phrases as of_texts
-use Rattle.palm_claim.specs.Phrases.{Phrases, header_of}
+use Rattle.palm_claim.specs.Phrases.{Phrases, header_pieces}
 use Rattle.palm_claim.specs.Statement.{IsStepNumber, reasons_pieces}
 use Rattle.palm_claim.specs.declared.ground.Ground.{Ground}
 use Rattle.palm_claim.specs.declared.ground.Ground.TheVariants.{By, Assumed, OfLemma}
 use Rattle.proof_text.specs.declared.statement.NamedPair.{NamedPair}
 use Rattle.palm_claim.specs.declared.statement.Statement.{Statement}
-use Rattle.proof_text.specs.Reader.{is_lead, phrase_at}
+use Rattle.proof_text.specs.Reader.{phrase_at}
 use Rattle.proof_text.specs.declared.statement.ProofPhrase.{ProofPhrase}
 use Rattle.proof_text.specs.declared.statement.ProofPhrase.TheVariants.{Header, Lemma, Step, Wipe, Users, End}
 
@@ -41,15 +40,6 @@ wipe_pieces name = Keyword (codes "wipe") ∷ Named name ∷ []
 abbrev pub users_pieces : List (List ℕ) → List Piece
 users_pieces names = Keyword (codes "none") ∷ map Named names
 
--- the tokens are those of the phrase
-abbrev pub IsSpelled : List Lexeme → ProofPhrase → Type 0
-IsSpelled tokens Header = tokens ≡ header_of (codes "proof")
-IsSpelled tokens (Lemma pairs) = Spells tokens (lemma_pieces pairs)
-IsSpelled tokens (Step name value why) = Spells tokens (step_pieces name value why)
-IsSpelled tokens (Wipe name) = Spells tokens (wipe_pieces name)
-IsSpelled tokens (Users names) = Spells tokens (users_pieces names)
-IsSpelled tokens End = Spells tokens (Keyword (codes "end") ∷ [])
-
 -- a number that may stand behind `lemma`: one of 64 bits
 abbrev pub IsLemmaNumber : ℕ → Type 0
 IsLemmaNumber k = IsFromOneTo 18446744073709551615 k
@@ -66,10 +56,19 @@ AreInRange (Lemma pairs) = All (λ p. IsValue p.value) pairs
 AreInRange (Step name value why) = IsValue value × IsGroundInRange why
 AreInRange _ = ⊤
 
--- the phrases of proofs
-abbrev pub phrases : Phrases ProofPhrase
-phrases = record { is_lead = is_lead; phrase_at = phrase_at; IsSpelled = IsSpelled; AreInRange = AreInRange }
+-- what each phrase is written with, one piece after another
+abbrev pub phrase_pieces : ProofPhrase → List Piece
+phrase_pieces Header = header_pieces (codes "proof")
+phrase_pieces (Lemma pairs) = lemma_pieces pairs
+phrase_pieces (Step name value why) = step_pieces name value why
+phrase_pieces (Wipe name) = wipe_pieces name
+phrase_pieces (Users names) = users_pieces names
+phrase_pieces End = Keyword (codes "end") ∷ []
 
--- what a line says
+-- proofs are texts with these phrases
+abbrev pub phrases : Phrases ProofPhrase
+phrases = record { phrase_at = phrase_at; pieces = phrase_pieces; AreInRange = AreInRange }
+
+-- the line says this
 abbrev pub Says : List ℕ → Statement ProofPhrase → Type 0
 Says line statement = of_texts.Says phrases line statement

@@ -6,19 +6,19 @@ use Rattle.palm_book.specs.Named.{IsDeclared, IsPair, IsVariable}
 use Rattle.palm_book.specs.declared.book.BookCon.{BookCon}
 use Rattle.palm_claim.specs.Judging.{Family, IsVerdictFrom}
 use Rattle.palm_claim.specs.Own as of_texts
-use Rattle.palm_claim.specs.Own.{Own, family_of}
+use Rattle.palm_claim.specs.Own.{MeetsBy, Own, family_of, own_by}
 use Rattle.palm_claim.specs.Step.{IsReached, IsRightBy}
 use Rattle.palm_claim.specs.declared.ground.Ground.{Ground}
 use Rattle.palm_claim.specs.declared.ground.Ground.TheVariants.{By, Assumed, OfLemma}
 use Rattle.palm_claim.specs.declared.verdict.Cause.{Cause}
-use Rattle.palm_claim.specs.declared.verdict.Cause.TheVariants.{Misdeclared, Unproved, NotRight, NotReached}
+use Rattle.palm_claim.specs.declared.verdict.Cause.TheVariants.{NotReached}
 use Rattle.palm_claim.specs.declared.verdict.Claim.TheVariants.{Conflict}
-use Rattle.proof_text.specs.Draft.{Draft, Leads, MayStand, blank, given_in}
+use Rattle.proof_text.specs.Draft.{Draft, Leads, blank, books, given_in, order}
 use Rattle.proof_text.specs.Statement.{phrases}
 use Rattle.proof_text.specs.Users.{AreUsed}
 use Rattle.proof_text.specs.declared.statement.NamedPair.{NamedPair}
 use Rattle.proof_text.specs.declared.statement.Stage.{Stage}
-use Rattle.proof_text.specs.declared.statement.Stage.TheVariants.{Closed, Listing}
+use Rattle.proof_text.specs.declared.statement.Stage.TheVariants.{Closed}
 use Rattle.palm_claim.specs.declared.statement.Statement.{Statement}
 use Rattle.proof_text.specs.declared.statement.ProofPhrase.{ProofPhrase}
 use Rattle.proof_text.specs.declared.statement.ProofPhrase.TheVariants.{Lemma, Step, Wipe, Users}
@@ -75,41 +75,27 @@ IsNotReached d _ = ⊥
 
 -- the condition of a cause, other than that it may not stand there
 abbrev pub MeetsPhrase : Draft → ProofPhrase → Cause → Type 0
-MeetsPhrase d phrase Misdeclared = IsMisdeclared d phrase
-MeetsPhrase d phrase Unproved = HasUnproved d phrase
-MeetsPhrase d phrase NotRight = IsNotRight d phrase
-MeetsPhrase d phrase NotReached = IsNotReached d phrase
-MeetsPhrase d phrase _ = ⊥
+MeetsPhrase d phrase cause = MeetsBy IsMisdeclared HasUnproved IsNotRight IsNotReached d phrase cause
 
 -- ---- the text
 
--- the verdict where the lines have ended, and n is the number of a next one
+-- where no line is left and a next one would be the n-th, a proof whose end was read is accepted
 abbrev pub ending : Stage → Contents → ℕ → ProofVerdict
 ending (Closed users) book n = Accepted book users
 ending stage book n = Refused n NotReached
 
--- what is the own of proofs among all such texts
+-- what proofs have that other texts with variables and constraints do not
 abbrev pub of_proofs : Own Draft ProofPhrase ProofVerdict
-of_proofs = record {
-  phrases = phrases;
-  book = λ d. d.book;
-  MayStand = λ d statement. MayStand d.stage statement;
-  declared = λ d book. record d { book = book };
-  listed = λ d book. record d { stage = Listing; book = book };
-  MeetsPhrase = MeetsPhrase;
-  LeadsPhrase = Leads;
-  ending = λ d n. ending d.stage d.book n;
-  refused = λ n cause. Refused n cause;
-}
+of_proofs = own_by phrases order books MeetsPhrase Leads (λ d n. ending d.stage d.book n) (λ n cause. Refused n cause)
 
--- proofs
+-- their family
 abbrev pub proofs : Family Draft (Statement ProofPhrase) ProofVerdict
 proofs = family_of of_proofs
 
--- the condition of a cause, of what a line says
+-- what a line says meets a cause, or does not
 abbrev pub Meets : Draft → Statement ProofPhrase → Cause → Type 0
 Meets d statement cause = of_texts.Meets of_proofs d statement cause
 
--- the verdict on a text
+-- this is the verdict on the bytes
 abbrev pub IsVerdict : List ℕ → ProofVerdict → Type 0
 IsVerdict bytes verdict = IsVerdictFrom proofs blank bytes verdict

@@ -16,12 +16,12 @@ use Rattle.palm_claim.proofs.cited.Causes.{first_beyond, first_misdeclared, with
 
 module _ {D P V : Type 0} (own : Own D P V) (d e : D) (book : Contents) (is : own.book d ≡ book) (name : List ℕ) where
   module _ (domain : DomainText) where
-    module _ (may : own.MayStand d (Variable name domain)) where
+    module _ (may : own.MayDeclare d) where
       pub variable_misdeclared : HasVariable book name → TakesStatement (family_of own) d (Variable name domain) (Some Misdeclared) e
       variable_misdeclared has = first_misdeclared (Meets own d (Variable name domain)) (λ n. n may) (subst (λ (b : Contents). HasVariable b name) (sym is) has)
 
   module _ (shape : Shape) where
-    module _ (may : own.MayStand d (Constraint name shape)) where
+    module _ (may : own.MayList d) where
       pub constraint_misdeclared : HasConstraint book name ⊎ Any (IsUnknownName book.variables) (names_of shape) → TakesStatement (family_of own) d (Constraint name shape) (Some Misdeclared) e
       constraint_misdeclared wrong =
           first_misdeclared (Meets own d (Constraint name shape)) (λ n. n may)

@@ -16,7 +16,7 @@ use Rattle.palm_claim.specs.Reader.{is_value}
 use Rattle.palm_claim.specs.declared.statement.Statement.{Statement}
 use Rattle.palm_claim.specs.declared.statement.Statement.TheVariants.{Comment, Variable, Constraint, Phrase}
 use Rattle.palm_claim.proofs.cited.Phrases.{is_value-value}
-use Rattle.palm_claim.proofs.cited.Saying.{led_says, line_says, line_says_nothing}
+use Rattle.palm_claim.proofs.cited.Saying.{line_says, line_says_nothing, phrase_says}
 use Rattle.text_check.specs.Reading.{IsSoundStatement, SaysOrNot}
 use Rattle.text_check.specs.declared.statements.Reading.{Reading}
 
@@ -26,7 +26,7 @@ module _ {P : Type 0} (phrases : Phrases P) (are : ArePhrases phrases) where
   line_read bytes line (Some r) read e = line_says phrases are bytes line r.statement read (sym e)
 
   pub phrase_read : (bytes : List ℕ) (phrase : P) → length bytes ≤ 65536 → HoldsAll (λ t. t) phrase (phrase_of phrases.phrase_at (tokens_of bytes)) → Says phrases bytes (Phrase phrase)
-  phrase_read bytes phrase short h = led_says phrases are bytes phrase short (h.read ∙ ap Some (sym h.is))
+  phrase_read bytes phrase short h = phrase_says phrases are bytes phrase short (h.read ∙ ap Some (sym h.is))
 
   -- what a line says keeps to the limits on numbers
   pub said_sound : (bytes : List ℕ) (s : Statement P) → Says phrases bytes s → IsSoundStatement phrases s

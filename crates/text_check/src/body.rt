@@ -11,10 +11,13 @@ ghost use Rattle.text_check.specs.Kept.{AreKept};
 
 use palm_base::NoMemory;
 use palm_book::Book;
-use palm_claim::{Cause, Statement};
+use palm_claim::Cause;
 use palm_listed::Listed;
 use palm_read::{Cursor, LineError};
 use std::alloc::Global;
+
+/// The first cause of a line, if it has one, unless memory runs out.
+pub type FirstCause = Result<Option<Cause>, NoMemory>;
 
 /// What is kept of a text of one family besides what it lists, and what the phrases of the family are.
 pub trait Body: Sized + Drop {
@@ -43,10 +46,6 @@ pub trait Body: Sized + Drop {
     /// What holds of it between lines.
     ghost keeps: { Contents → Self → Type 0 };
 
-    /// Whether a line that begins with this word is read as a phrase.
-    fn is_lead(word: &[u8]) -> bool
-        ensures { result ≡ own.phrases.is_lead word.now };
-
     /// Reads a phrase from the front of the tokens.
     fn read(cursor: &mut Cursor<'_>, alloc: Global) -> Result<Self::Phrase, LineError>
         ensures { Gives (λ phrase. phrase) result cursor.new (own.phrases.phrase_at cursor.old) };
@@ -56,9 +55,17 @@ pub trait Body: Sized + Drop {
         ensures blank { draft (record { variables = []; constraints = [] }) result ≡ blank }
         ensures kept { keeps (record { variables = []; constraints = [] }) result };
 
-    /// Whether a line that says this may stand behind the lines so far.
-    fn may_stand(&self, statement: &Statement<Self::Phrase>) -> bool
-        ensures { (book : Contents) → Tells result (own.MayStand (draft book self.now) statement.now) };
+    /// Whether a variable may stand behind the lines so far.
+    fn may_declare(&self) -> bool
+        ensures { (book : Contents) → Tells result (own.MayDeclare (draft book self.now)) };
+
+    /// Whether a constraint may.
+    fn may_list(&self) -> bool
+        ensures { (book : Contents) → Tells result (own.MayList (draft book self.now)) };
+
+    /// Whether the phrase may.
+    fn may_follow(&self, phrase: &Self::Phrase) -> bool
+        ensures { (book : Contents) → Tells result (own.MayFollow (draft book self.now) phrase.now) };
 
     /// Goes on behind a variable.
     fn declared(&mut self) -> Result<(), NoMemory>
@@ -72,13 +79,8 @@ pub trait Body: Sized + Drop {
         ensures kept { (book : Contents) (name : List ℕ) (con : Con) → keeps book self.old → keeps (with_listed book name con) self.new };
 
     /// Takes a phrase that may stand there, or answers its first cause.
-    fn take(
-        &mut self,
-        alloc: Global,
-        listed: &mut Listed,
-        phrase: Self::Phrase,
-    ) -> Result<Option<Cause>, NoMemory>
-        requires stands { own.MayStand (draft listed.old.book self.old) (Statement.Phrase phrase) }
+    fn take(&mut self, alloc: Global, listed: &mut Listed, phrase: Self::Phrase) -> FirstCause
+        requires stands { own.MayFollow (draft listed.old.book self.old) phrase }
         requires range { own.phrases.AreInRange phrase }
         requires kept { AreKept keeps listed.old self.old }
         ensures takes { IfOk result (λ cause. TakesStatement (family_of own) (draft listed.old.book self.old) (Statement.Phrase phrase) cause

@@ -10,7 +10,7 @@ ghost use Rattle.palm_read.specs.declared.line.Line.TheVariants.{Add, Var};
 ghost use Rattle.text_check.specs.Kept.{IsChecker, draft_of};
 ghost use Rattle.text_check.specs.Reading.{IsBeyondAlone, IsSoundStatement};
 
-use crate::body::Body;
+use crate::body::{Body, FirstCause};
 use crate::statements::read_statement;
 use palm_base::NoMemory;
 use palm_book::{MOST_CONSTRAINTS, MOST_VARIABLES, Unresolved, values_in};
@@ -41,7 +41,7 @@ impl<B: Body> Checker<B> {
     }
 
     /// Takes the next line, or answers its first cause.
-    pub fn take(&mut self, line: &[u8]) -> Result<Option<Cause>, NoMemory>
+    pub fn take(&mut self, line: &[u8]) -> FirstCause
         requires { IsChecker B.keeps self.old }
         ensures takes { IfOk result (λ cause. TakesLine (family_of B.own) (draft_of B.draft self.old) line.now cause (draft_of B.draft self.new)) }
         ensures kept { OnOk result (IsChecker B.keeps self.new) }
@@ -49,20 +49,11 @@ impl<B: Body> Checker<B> {
         let Some(reading) = read_statement::<B>(self.alloc, line)? else {
             return Ok(Some(Cause::Malformed));
         };
-        if !self.body.may_stand(&reading.statement) {
-            return Ok(Some(Cause::Malformed));
-        }
         self.hear(reading.statement, reading.is_beyond)
     }
 
-    /// Takes what a line says that may stand there, or answers its first cause. It is told whether the line breaks a limit
-    /// by itself.
-    fn hear(
-        &mut self,
-        statement: Statement<B::Phrase>,
-        is_beyond: bool,
-    ) -> Result<Option<Cause>, NoMemory>
-        requires stands { B.own.MayStand (draft_of B.draft self.old) statement }
+    /// Takes what a line says, or answers its first cause. It is told whether the line breaks a limit by itself.
+    fn hear(&mut self, statement: Statement<B::Phrase>, is_beyond: bool) -> FirstCause
         requires sound { IsSoundStatement B.own.phrases statement }
         requires beyond { Tells is_beyond (IsBeyondAlone statement) }
         requires kept { IsChecker B.keeps self.old }
@@ -73,18 +64,15 @@ impl<B: Body> Checker<B> {
             Statement::Comment => Ok(None),
             Statement::Variable { name, domain } => self.declare(name, domain, is_beyond),
             Statement::Constraint { name, shape } => self.list(name, shape, is_beyond),
-            Statement::Phrase(phrase) => self.body.take(self.alloc, &mut self.listed, phrase),
+            Statement::Phrase(phrase) if self.body.may_follow(&phrase) => {
+                self.body.take(self.alloc, &mut self.listed, phrase)
+            }
+            Statement::Phrase(_) => Ok(Some(Cause::Malformed)),
         }
     }
 
     /// Takes a variable.
-    fn declare(
-        &mut self,
-        name: Name,
-        domain: DomainText,
-        is_beyond: bool,
-    ) -> Result<Option<Cause>, NoMemory>
-        requires stands { B.own.MayStand (draft_of B.draft self.old) (statements.Variable name domain) }
+    fn declare(&mut self, name: Name, domain: DomainText, is_beyond: bool) -> FirstCause
         requires sound { IsSound (Var name domain) }
         requires beyond { Tells is_beyond (IsBeyond (Var name domain)) }
         requires kept { IsChecker B.keeps self.old }
@@ -92,6 +80,9 @@ impl<B: Body> Checker<B> {
             (draft_of B.draft self.new)) }
         ensures kept { OnOk result (IsChecker B.keeps self.new) }
     {
+        if !self.body.may_declare() {
+            return Ok(Some(Cause::Malformed));
+        }
         if self.listed.book.has_variable(&name) {
             return Ok(Some(Cause::Misdeclared));
         }
@@ -105,8 +96,7 @@ impl<B: Body> Checker<B> {
     }
 
     /// Takes a constraint.
-    fn list(&mut self, name: Name, shape: Shape, is_beyond: bool) -> Result<Option<Cause>, NoMemory>
-        requires stands { B.own.MayStand (draft_of B.draft self.old) (statements.Constraint name shape) }
+    fn list(&mut self, name: Name, shape: Shape, is_beyond: bool) -> FirstCause
         requires sound { IsSound (Add name shape) }
         requires beyond { Tells is_beyond (IsBeyond (Add name shape)) }
         requires kept { IsChecker B.keeps self.old }
@@ -114,6 +104,9 @@ impl<B: Body> Checker<B> {
             (draft_of B.draft self.new)) }
         ensures kept { OnOk result (IsChecker B.keeps self.new) }
     {
+        if !self.body.may_list() {
+            return Ok(Some(Cause::Malformed));
+        }
         if self.listed.book.has_constraint(&name) {
             return Ok(Some(Cause::Misdeclared));
         }

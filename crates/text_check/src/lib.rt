@@ -4,12 +4,14 @@
 
 mod body;
 mod checker;
+mod items;
 mod numbers;
 mod statements;
 mod steps;
 mod verdict;
 
-pub use body::Body;
+pub use body::{Body, FirstCause};
+pub use items::{Items, read_items};
 pub use numbers::{number_up_to, read_header, read_reasons, read_value};
 pub use steps::{check_step, check_wiped, is_among};
 pub use verdict::check_text;

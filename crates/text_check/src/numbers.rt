@@ -1,11 +1,11 @@
 //! Reading headers, values and numbers, as phrases have them.
-ghost use Rattle.std.specs.Prelude.{◌≡◌, ◌≤◌, true, false, IfNone, IfSome, option_map};
+ghost use Rattle.std.specs.Prelude.{◌≡◌, ◌≤◌, true, false, IfNone, IfSome};
 ghost use Rattle.palm_base.specs.Numbers.{AreDigits, digits_number};
-ghost use Rattle.palm_claim.specs.Reader.{header_at, is_number, is_value, next_number, reasons_at, value_at};
+ghost use Rattle.palm_claim.specs.Reader.{header_at, is_number, is_value, reasons_at, value_at};
 ghost use Rattle.palm_read.specs.Linear.{signed};
 ghost use Rattle.palm_read.specs.Reader.Held.{Gives, Passes};
-ghost use Rattle.palm_read.specs.Reader.Lists.{many_at};
 
+use crate::items::{Items, read_items};
 use palm_base::{Value, read_int};
 use palm_claim::StepList;
 use palm_model::GREATEST_VALUE;
@@ -34,35 +34,36 @@ pub fn read_reasons(cursor: &mut Cursor<'_>, alloc: Global) -> Result<StepList, 
     if !cursor.takes_word(b"from") {
         return Ok(StepList::new(alloc));
     }
-    let numbers = numbers(cursor, alloc)?;
+    let numbers = read_items::<StepNumbers>(cursor, alloc)?;
     if numbers.len() == 0 {
         return Err(LineError::Form);
     }
     Ok(numbers)
 }
 
-/// Reads numbers of steps, as long as digits stand in front.
-fn numbers(cursor: &mut Cursor<'_>, alloc: Global) -> Result<StepList, LineError>
-    ensures { Gives (λ numbers. numbers) result cursor.new (many_at next_number cursor.old) }
-{
-    let mut numbers = StepList::new(alloc);
-    while let Some(number) = next_number(cursor)? {
-        numbers.push(number)?;
-    }
-    Ok(numbers)
-}
+/// Numbers of steps.
+struct StepNumbers;
 
-/// Reads the number of a step, if digits stand in front.
-#[tactic(auto, unfolding(palm_claim::specs::Reader::next_number, palm_read::specs::Reader::Steps::when, palm_read::specs::Reader::Steps::choose))]
-fn next_number(cursor: &mut Cursor<'_>) -> Result<Option<u32>, LineError>
-    ensures { Gives (option_map (λ number. number)) result cursor.new (next_number cursor.old) }
-{
-    let Some(digits) = cursor.digits() else {
-        return Ok(None);
-    };
-    match number_up_to(u64::from(u32::MAX), digits) {
-        Some(number) => Ok(Some(number as u32)),
-        None => Err(LineError::Form),
+impl Items for StepNumbers {
+    ghost use Rattle.palm_claim.proofs.cited.Phrases.{number_item};
+    ghost use Rattle.palm_claim.specs.Reader.{next_number};
+    ghost use Rattle.palm_read.proofs.cited.Many.{item_shortens};
+
+    type Item = u32;
+
+    ghost next_at = { next_number };
+
+    ghost shortens = { item_shortens number_item };
+
+    #[tactic(auto, unfolding(palm_claim::specs::Reader::next_number, palm_read::specs::Reader::Steps::when, palm_read::specs::Reader::Steps::choose))]
+    fn next(cursor: &mut Cursor<'_>, _alloc: Global) -> Result<Option<u32>, LineError> {
+        let Some(digits) = cursor.digits() else {
+            return Ok(None);
+        };
+        match number_up_to(u64::from(u32::MAX), digits) {
+            Some(number) => Ok(Some(number as u32)),
+            None => Err(LineError::Form),
+        }
     }
 }
 

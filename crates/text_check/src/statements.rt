@@ -1,7 +1,7 @@
 //! What lines say.
-ghost use Rattle.std.specs.Prelude.{◌≡◌, true, IfOk, IfSome, option_map};
+ghost use Rattle.std.specs.Prelude.{◌≡◌, IfOk, IfSome, option_map};
 ghost use Rattle.palm_base.specs.Tells.{Tells};
-ghost use Rattle.palm_claim.specs.Phrases.{begins_phrase, of_line, phrase_of};
+ghost use Rattle.palm_claim.specs.Phrases.{of_line, phrase_of};
 ghost use Rattle.palm_read.specs.Limits.{IsBeyond};
 ghost use Rattle.palm_read.specs.Reader.Held.{GivesAll};
 ghost use Rattle.palm_read.specs.Token.{tokens_of};
@@ -10,7 +10,7 @@ ghost use Rattle.text_check.specs.Reading.{IsBeyondAlone, SaysOrNot};
 use crate::body::Body;
 use palm_base::NoMemory;
 use palm_claim::Statement;
-use palm_read::{Cursor, Line, LineError, MOST_LINE_BYTES, Mode, TokenKind, beyond, parse_tokens};
+use palm_read::{Cursor, Line, LineError, MOST_LINE_BYTES, Mode, beyond, parse_line};
 use std::alloc::Global;
 
 /// What a line says, and whether it breaks a limit by itself.
@@ -20,8 +20,7 @@ pub struct Reading<P> {
     pub is_beyond: bool,
 }
 
-/// What the line says, or nothing. Its first word decides how its tokens are read: as a phrase, or as a line of a session of
-/// version 2.
+/// What the line says, or nothing: a phrase, or what a line of a session of version 2 says there.
 pub fn read_statement<B: Body>(
     alloc: Global,
     bytes: &[u8],
@@ -29,36 +28,32 @@ pub fn read_statement<B: Body>(
     ensures says { IfOk result (SaysOrNot B.own.phrases bytes.now) }
     ensures beyond { IfOk result (λ reading. IfSome reading (λ r. Tells r.is_beyond (IsBeyondAlone r.statement))) }
 {
-    let mut cursor = Cursor::new(bytes);
-    if begins_phrase::<B>(&cursor) {
-        return of_phrase::<B>(alloc, bytes, &mut cursor);
+    if bytes.len() > MOST_LINE_BYTES {
+        return Ok(None);
     }
-    match parse_tokens(alloc, bytes, &mut cursor, Mode::Two) {
-        Ok(line) => Ok(of_line(line)),
-        Err(error) => match error {
-            LineError::NoMemory => Err(NoMemory),
-            _ => Ok(None),
+    match read_phrase::<B>(alloc, bytes) {
+        Ok(phrase) => Ok(Some(Reading {
+            statement: Statement::Phrase(phrase),
+            is_beyond: false,
+        })),
+        Err(LineError::Form) => match parse_line(alloc, bytes, Mode::Two) {
+            Ok(line) => Ok(of_line(line)),
+            Err(error) => match error {
+                LineError::NoMemory => Err(NoMemory),
+                _ => Ok(None),
+            },
         },
+        Err(_) => Err(NoMemory),
     }
 }
 
-/// Whether the token in front is the first word of a phrase.
-#[tactic(auto, unfolding(palm_claim::specs::Phrases::begins_phrase))]
-fn begins_phrase<B: Body>(cursor: &Cursor<'_>) -> bool
-    ensures { result ≡ begins_phrase B.own.phrases.is_lead cursor.now }
-{
-    match cursor.text(TokenKind::Word) {
-        Some(word) => B::is_lead(word),
-        None => false,
-    }
-}
-
-/// What all tokens say by a phrase.
+/// What all tokens of a line say by a phrase.
 #[tactic(auto, unfolding(palm_claim::specs::Phrases::phrase_of, palm_read::specs::Reader::Steps::and_then, palm_read::specs::Reader::Steps::choose))]
-fn read_phrase<B: Body>(alloc: Global, cursor: &mut Cursor<'_>) -> Result<B::Phrase, LineError>
-    ensures { GivesAll (λ phrase. phrase) result (phrase_of B.own.phrases.phrase_at cursor.old) }
+fn read_phrase<B: Body>(alloc: Global, bytes: &[u8]) -> Result<B::Phrase, LineError>
+    ensures { GivesAll (λ phrase. phrase) result (phrase_of B.own.phrases.phrase_at (tokens_of bytes.now)) }
 {
-    let phrase = B::read(cursor, alloc)?;
+    let mut cursor = Cursor::new(bytes);
+    let phrase = B::read(&mut cursor, alloc)?;
     if !cursor.is_at_end() {
         return Err(LineError::Form);
     }
@@ -88,29 +83,5 @@ fn statement_of<P: Drop>(line: Line) -> Option<Statement<P>>
         Line::Var { name, domain } => Some(Statement::Variable { name, domain }),
         Line::Add { name, shape } => Some(Statement::Constraint { name, shape }),
         _ => None,
-    }
-}
-
-/// What a line says that begins as a phrase does.
-fn of_phrase<B: Body>(
-    alloc: Global,
-    bytes: &[u8],
-    cursor: &mut Cursor<'_>,
-) -> Result<Option<Reading<B::Phrase>>, NoMemory>
-    requires all { cursor.old ≡ tokens_of bytes.now }
-    requires begins { begins_phrase B.own.phrases.is_lead cursor.old ≡ true }
-    ensures says { IfOk result (SaysOrNot B.own.phrases bytes.now) }
-    ensures beyond { IfOk result (λ reading. IfSome reading (λ r. Tells r.is_beyond (IsBeyondAlone r.statement))) }
-{
-    if bytes.len() > MOST_LINE_BYTES {
-        return Ok(None);
-    }
-    match read_phrase::<B>(alloc, cursor) {
-        Ok(phrase) => Ok(Some(Reading {
-            statement: Statement::Phrase(phrase),
-            is_beyond: false,
-        })),
-        Err(LineError::Form) => Ok(None),
-        Err(_) => Err(NoMemory),
     }
 }

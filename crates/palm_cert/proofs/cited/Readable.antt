@@ -14,6 +14,7 @@ use Rattle.palm_book.proofs.cited.Any.{any_cases, any_member, any_none}
 use Rattle.palm_book.proofs.cited.WellFormed.{named_near}
 use Rattle.palm_claim.specs.Phrases.{header_of}
 use Rattle.palm_claim.specs.Statement.{IsStepNumber, Says}
+use Rattle.palm_claim.proofs.cited.Phrases.{header_spelled}
 use Rattle.palm_claim.specs.declared.statement.CertificatePhrase.TheVariants.{End, Header, Step}
 use Rattle.palm_claim.specs.declared.statement.Statement.TheVariants.{Phrase}
 use Rattle.palm_claim.specs.declared.verdict.Claim.{Claim}
@@ -50,7 +51,7 @@ unfolding tokens_of kind_at more_at lexeme_at
 header_tokens = refl
 
 header_says : Says (codes "palm-cert 1") (Phrase Header)
-header_says = (record { short = omega arith; says = refl; plain = AllPass-from_list_all is_plain (codes "palm-cert 1") refl }, header_tokens, tt)
+header_says = (record { short = omega arith; says = refl; plain = AllPass-from_list_all is_plain (codes "palm-cert 1") refl }, header_spelled (codes "cert") (tokens_of (codes "palm-cert 1")) header_tokens, tt)
 
 end_says : Says (codes "end") (Phrase End)
 end_says =

@@ -16,7 +16,7 @@ use Rattle.palm_claim.specs.Step.{IsReached, IsRight, pairs_at}
 use Rattle.palm_claim.specs.declared.verdict.Claim.{Claim}
 use Rattle.palm_claim.specs.declared.verdict.Claim.TheVariants.{Gone, Conflict}
 use Rattle.palm_book.proofs.cited.Naming.{name_known, some_known, variable_with}
-use Rattle.palm_book.proofs.cited.Pairs.{Apart, pair_is, variable_is, variable_known as has_variable}
+use Rattle.palm_book.proofs.cited.Pairs.{Apart, variable_is, variable_known as has_variable}
 
 -- ---- what is known in general
 
@@ -89,23 +89,7 @@ reached_known book proved (Conflict x) =
 
 -- ---- what a name stands for
 
--- what is asked of the one pair that a name and a value stand for
-pub asked_of_pair : (variables : List BookVar) (name : List ℕ) (value : ℤ) (Wrong : Pair → Type 0) → Apart variables → ((p : Pair) → Known (Wrong p))
-    → Known ((pair : Pair) × IsPair variables name value pair × Wrong pair)
-asked_of_pair variables name value Wrong apart known = elim (declared_pair variables name value) [
-  | inl r ↦ elim (known r.0) [
-    | inl wrong ↦ inl (r.0, r.1, wrong)
-    | inr fine ↦ inr (λ q. fine (subst Wrong (pair_is variables name value q.0 r.0 apart q.1 r.1) q.2))
-  ]
-  | inr none ↦ inr (λ q. none (q.0, q.1))
-]
-  where
-    declared_pair : (variables : List BookVar) (name : List ℕ) (value : ℤ) → Known ((pair : Pair) × IsPair variables name value pair)
-    declared_pair variables name value = elim (name_known (λ e. e.name) variables name) [
-      | inl a ↦ let x = variable_with variables name a in inl (record { var = x.0; value = value }, record { variable = record { declared = x.1; named = x.2 }; gives = refl })
-      | inr none ↦ inr (λ q. none (has_variable variables name q.0.var q.1.variable))
-    ]
-
+-- what is asked of the one variable that a name stands for
 pub asked_of_variable : (variables : List BookVar) (name : List ℕ) (Wrong : ℕ → Type 0) → Apart variables → ((x : ℕ) → Known (Wrong x))
     → Known ((x : ℕ) × IsVariable variables name x × Wrong x)
 asked_of_variable variables name Wrong apart known = elim (name_known (λ e. e.name) variables name) [
@@ -118,3 +102,13 @@ asked_of_variable variables name Wrong apart known = elim (name_known (λ e. e.n
       ]
   | inr none ↦ inr (λ q. none (has_variable variables name q.0 q.1))
 ]
+
+-- and of the one pair, where a value is given too
+pub asked_of_pair : (variables : List BookVar) (name : List ℕ) (value : ℤ) (Wrong : Pair → Type 0) → Apart variables → ((p : Pair) → Known (Wrong p))
+    → Known ((pair : Pair) × IsPair variables name value pair × Wrong pair)
+asked_of_pair variables name value Wrong apart known =
+    let pair : ℕ → ℤ → Pair = λ x v. record { var = x; value = v } in
+    elim (asked_of_variable variables name (λ x. Wrong (pair x value)) apart (λ x. known (pair x value))) [
+      | inl r ↦ inl (pair r.0 value, record { variable = r.1; gives = refl }, r.2)
+      | inr none ↦ inr (λ q. none (q.0.var, q.1.variable, subst (λ (v : ℤ). Wrong (pair q.0.var v)) q.1.gives q.2))
+    ]

@@ -6,8 +6,8 @@ use Rattle.std.proofs.lemmas.List.{get_or_default, length-map}
 use Rattle.std.proofs.lemmas.List.Elements.{All-contains, Contains-push_cases}
 use Rattle.palm_base.specs.First.{IsNone}
 use Rattle.palm_base.specs.declared.terms.Pair.{Pair}
-use Rattle.palm_base.proofs.cited.Members.{member_nil, member_here, member_map, member_unmap}
-use Rattle.palm_book.specs.Book.{Contents, initial_of}
+use Rattle.palm_base.proofs.cited.Members.{Known, member_nil, member_here, member_map, member_unmap}
+use Rattle.palm_book.specs.Book.{Contents, initial_of, with_listed, with_variable}
 use Rattle.palm_book.specs.declared.book.BookCon.{BookCon}
 use Rattle.palm_book.proofs.cited.Any.{any_member}
 use Rattle.palm_model.specs.Closure.{Explains, IsConflict, IsGreatest}
@@ -17,14 +17,14 @@ use Rattle.palm_model.proofs.cited.Without.{has_without, pair_of}
 use Rattle.palm_laws.proofs.cited.Solutions.{explained_missing}
 use Rattle.palm_read.specs.Domain.{values_in}
 use Rattle.palm_claim.specs.Claim.{HoldsIn, IsExplained, IsOver, IsOverItsBook, constraints_of}
-use Rattle.palm_claim.specs.Draft.{Draft, MayList, blank, with_constraint, with_step, with_variable}
+use Rattle.palm_claim.specs.Draft.{Draft, MayList, blank, books, with_step}
 use Rattle.palm_claim.specs.Own as of_texts
 use Rattle.palm_claim.specs.Statement.{IsStepNumber, Says}
 use Rattle.palm_claim.specs.Step.{IsReached, IsRight, pair_at, pairs_at}
 use Rattle.palm_claim.specs.Judging.{Judges, in_order}
 use Rattle.palm_claim.specs.Verdict.{IsVerdict, Meets, certificates, ending, of_certificates}
 use Rattle.palm_claim.specs.declared.statement.Stage.{Stage}
-use Rattle.palm_claim.specs.declared.statement.Stage.TheVariants.{Declaring, Listing, Proving, Claimed, Closed}
+use Rattle.palm_claim.specs.declared.statement.Stage.TheVariants.{Unopened, Declaring, Listing, Proving, Claimed, Closed}
 use Rattle.palm_claim.specs.declared.statement.CertificatePhrase.{CertificatePhrase}
 use Rattle.palm_claim.specs.declared.statement.CertificatePhrase.TheVariants.{Header, Step, ValueClaim, ConflictClaim, End}
 use Rattle.palm_claim.specs.declared.statement.Statement.{Statement}
@@ -34,7 +34,6 @@ use Rattle.palm_claim.specs.declared.verdict.Claim.TheVariants.{Gone, Conflict}
 use Rattle.palm_claim.specs.declared.verdict.Proved.{Proved}
 use Rattle.palm_claim.specs.declared.verdict.Verdict.{Verdict}
 use Rattle.palm_claim.specs.declared.verdict.Verdict.TheVariants.{Accepted, Refused}
-use Rattle.palm_claim.proofs.Stages.{is_declaring, is_unopened}
 use Rattle.palm_claim.proofs.cited.Asked.{settled}
 
 -- ---- a right step is explained where its reasons are
@@ -69,6 +68,16 @@ right_explained book proved pair by reasons explained right d inside closed has 
     right.lacks.lacks (support_grows d (without (initial_of book) gone) right.lacks.part pair.var pair.value narrow
     (closed right.owner.con right.lacks.part (member_map (λ (c : BookCon). c.con) book.constraints right.owner right.listed)
     right.lacks.is_part pair.var pair.value right.lacks.over has))
+
+-- ---- how far a certificate has come is known
+
+pub is_unopened : (stage : Stage) → Known (stage ≡ Unopened)
+is_unopened Unopened = inl refl
+is_unopened _ = inr (λ e. cc)
+
+pub is_declaring : (stage : Stage) → Known (stage ≡ Declaring)
+is_declaring Declaring = inl refl
+is_declaring _ = inr (λ e. cc)
 
 -- ---- what every draft keeps to
 
@@ -112,11 +121,11 @@ keeps_leads d e line (Phrase Header) keeps says none leads =
 keeps_leads d e line (Variable name domain) keeps says none leads =
     let stands = settled (is_declaring d.stage) none.0 in
     let proved : d.proved ≡ [] = subst (λ s. AtStage s d) stands keeps.stage in
-    let next = with_variable d name (values_in domain) in
+    let next = books.declared d (with_variable d.book name (values_in domain)) in
     subst Keeps (sym leads) (keeps_none next proved (subst (λ s. AtStage s next) (sym stands) proved))
 keeps_leads d e line (Constraint name shape) keeps says none leads =
     let proved = none_proved d.stage d none.0 keeps.stage in
-    subst Keeps (sym leads.2) (keeps_none (with_constraint d name leads.0) proved proved)
+    subst Keeps (sym leads.2) (keeps_none (books.listed d (with_listed d.book name leads.0)) proved proved)
 keeps_leads d e line (Phrase (Step name value by reasons)) keeps says none leads =
     let pair : Pair = leads.0 in
     let members = reason_member d.proved reasons says.2.1 none.1.1.1.0 in

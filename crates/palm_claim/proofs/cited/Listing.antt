@@ -17,7 +17,7 @@ use Rattle.palm_read.specs.Limits.{names_of}
 use Rattle.palm_read.specs.declared.line.Line.TheVariants.{Var, Add}
 use Rattle.palm_read.proofs.cited.KnownLimits.{beyond_known, known_either, most_known}
 use Rattle.palm_claim.specs.Judging.{in_order}
-use Rattle.palm_claim.specs.Own.{IsBeyondLimits, IsMisdeclared, IsOfPhrase, Leads, Meets, Own, family_of}
+use Rattle.palm_claim.specs.Own.{IsBeyondLimits, IsMisdeclared, IsOfPhrase, Leads, MayStand, Meets, MeetsBy, Own, family_of}
 use Rattle.palm_claim.specs.Phrases.{ArePhrases}
 use Rattle.palm_claim.specs.declared.statement.Statement.{Statement}
 use Rattle.palm_claim.specs.declared.statement.Statement.TheVariants.{Comment, Variable, Constraint, Phrase}
@@ -58,6 +58,15 @@ pub record KeepsBook {D P V : Type 0} (own : Own D P V) : Type 0 where
   pub listed : (d : D) (book : Contents) → own.book (own.listed d book) ≡ book
   pub same : (d e : D) (phrase : P) → own.LeadsPhrase d phrase e → own.book e ≡ own.book d
 
+-- what a phrase meets is known where its conditions are
+pub meets_by_known : {D P : Type 0} (A B C E : D → P → Type 0) (d : D) (phrase : P) → Known (A d phrase) → Known (B d phrase) → Known (C d phrase) → Known (E d phrase)
+    → (cause : Cause) → Known (MeetsBy A B C E d phrase cause)
+meets_by_known A B C E d phrase a b c e Misdeclared = a
+meets_by_known A B C E d phrase a b c e Unproved = b
+meets_by_known A B C E d phrase a b c e NotRight = c
+meets_by_known A B C E d phrase a b c e NotReached = e
+meets_by_known A B C E d phrase a b c e _ = known_never
+
 module _ {D P V : Type 0} (own : Own D P V) where
   module _ (keeps : KeepsBook own) where
     pub leads_apart : (d e : D) (s : Statement P) → NamesApart (own.book d) → IsNone (Meets own d s) in_order → Leads own d s e → NamesApart (own.book e)
@@ -91,11 +100,19 @@ module _ {D P V : Type 0} (own : Own D P V) where
 
   -- every text has a verdict, where it is known whether a line may stand there, and what a phrase meets and leads to
   pub record ArePhrasesKnown (Keeps : D → Type 0) : Type 0 where
-    pub may_stand : (d : D) (s : Statement P) → Known (own.MayStand d s)
+    pub declares : (d : D) → Known (own.MayDeclare d)
+    pub lists : (d : D) → Known (own.MayList d)
+    pub follows : (d : D) (phrase : P) → Known (own.MayFollow d phrase)
     pub meets : (d : D) (phrase : P) → Keeps d → (cause : Cause) → Known (own.MeetsPhrase d phrase cause)
     pub leads : (d : D) (phrase : P) → Keeps d → IsNone (Meets own d (Phrase phrase)) in_order → (e : D) × own.LeadsPhrase d phrase e
 
   module _ (Keeps : D → Type 0) (known : ArePhrasesKnown Keeps) where
+    stand_known : (d : D) (s : Statement P) → Known (MayStand own d s)
+    stand_known d Comment = inl tt
+    stand_known d (Variable name domain) = known.declares d
+    stand_known d (Constraint name shape) = known.lists d
+    stand_known d (Phrase phrase) = known.follows d phrase
+
     misdeclared_known : (d : D) (s : Statement P) → Keeps d → Known (IsMisdeclared own d s)
     misdeclared_known d Comment keeps = known_never
     misdeclared_known d (Variable name domain) keeps = variable_known (own.book d) name
@@ -116,7 +133,7 @@ module _ {D P V : Type 0} (own : Own D P V) where
     phrase_known d (Phrase phrase) keeps cause = known.meets d phrase keeps cause
 
     meets_known : (d : D) (s : Statement P) → Keeps d → (cause : Cause) → Known (Meets own d s cause)
-    meets_known d s keeps Malformed = known_not (known.may_stand d s)
+    meets_known d s keeps Malformed = known_not (stand_known d s)
     meets_known d s keeps Misdeclared = misdeclared_known d s keeps
     meets_known d s keeps Beyond = limits_known d s
     meets_known d s keeps Unproved = phrase_known d s keeps Unproved

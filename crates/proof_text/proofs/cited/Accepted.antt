@@ -7,8 +7,8 @@ use Rattle.std.proofs.lemmas.List.Quantifiers.{all_pairs_push}
 use Rattle.palm_base.specs.First.{IsNone}
 use Rattle.palm_base.specs.declared.terms.Pair.{Pair}
 use Rattle.palm_base.specs.declared.terms.Cid.{Cid}
-use Rattle.palm_base.proofs.cited.Members.{member_cases, member_get, member_nil}
-use Rattle.palm_book.specs.Book.{BookVar, Contents, HasConstraint, IsUser, initial_of, listed}
+use Rattle.palm_base.proofs.cited.Members.{Known, member_cases, member_get, member_nil}
+use Rattle.palm_book.specs.Book.{BookVar, Contents, HasConstraint, IsUser, initial_of, listed, with_listed, with_variable}
 use Rattle.palm_book.specs.declared.book.BookCon.{BookCon}
 use Rattle.palm_book.proofs.cited.Naming.{variable_with}
 use Rattle.palm_laws.specs.Declared.{AreDeclared}
@@ -26,7 +26,7 @@ use Rattle.palm_claim.specs.declared.ground.Ground.{Ground}
 use Rattle.palm_claim.specs.declared.ground.Ground.TheVariants.{By, Assumed, OfLemma}
 use Rattle.palm_claim.proofs.cited.Explained.{reason_member}
 use Rattle.palm_claim.proofs.cited.ProvedSteps.{same_constraint}
-use Rattle.proof_text.specs.Draft.{ArePairs, Draft, MayList, Notes, at_stage, blank, given_in, users_of, with_constraint, with_lemma, with_step, with_variable, with_wipe}
+use Rattle.proof_text.specs.Draft.{ArePairs, Draft, MayList, Notes, at_stage, blank, books, given_in, users_of, with_lemma, with_step, with_wipe}
 use Rattle.proof_text.specs.Sound.{IsBacked}
 use Rattle.proof_text.specs.Statement.{IsGroundInRange, Says}
 use Rattle.proof_text.specs.Users.{AreOfTheirBook, AreUsed, IsAmong, by_lemma, by_step}
@@ -34,7 +34,7 @@ use Rattle.proof_text.specs.Verdict.{IsUnprovedGround, IsVerdict, Meets, ending,
 use Rattle.proof_text.specs.declared.lemma.Lemma.{Lemma}
 use Rattle.proof_text.specs.declared.statement.NamedPair.{NamedPair}
 use Rattle.proof_text.specs.declared.statement.Stage.{Stage}
-use Rattle.proof_text.specs.declared.statement.Stage.TheVariants.{Declaring, Listing, Reasoning, Wiped, Told, Closed}
+use Rattle.proof_text.specs.declared.statement.Stage.TheVariants.{Unopened, Declaring, Listing, Reasoning, Wiped, Told, Closed}
 use Rattle.palm_claim.specs.declared.statement.Statement.{Statement}
 use Rattle.palm_claim.specs.declared.statement.Statement.TheVariants.{Comment, Variable, Constraint, Phrase}
 use Rattle.proof_text.specs.declared.statement.ProofPhrase.{ProofPhrase}
@@ -42,10 +42,19 @@ use Rattle.proof_text.specs.declared.statement.ProofPhrase.TheVariants.{Header, 
 use Rattle.proof_text.specs.declared.verdict.ProofVerdict.{ProofVerdict}
 use Rattle.proof_text.specs.declared.verdict.ProofVerdict.TheVariants.{Accepted, Refused}
 use Rattle.palm_laws.proofs.cited.Solutions.{has_point, point_has, points, points_closed, points_inside}
-use Rattle.proof_text.proofs.Stages.{is_declaring, is_reasoning, is_unopened, is_wiped}
 use Rattle.palm_claim.proofs.cited.Asked.{settled}
 use Rattle.proof_text.proofs.Steps.{right_lacks}
 use Rattle.proof_text.proofs.Excluding.{HasPairs, IsTrue, IsUsed, notes_longer, solves_fewer, true_behind, used_among, used_more, users_listed, uses_longer}
+
+-- ---- the stages that lines ask for
+
+-- whether a stage is that of a header, of variables, of steps or behind a wipe
+pub stage_known : (stage : Stage) → Known (stage ≡ Unopened) × Known (stage ≡ Declaring) × Known (stage ≡ Reasoning) × Known (stage ≡ Wiped)
+stage_known Unopened = (inl refl, inr (λ e. cc), inr (λ e. cc), inr (λ e. cc))
+stage_known Declaring = (inr (λ e. cc), inl refl, inr (λ e. cc), inr (λ e. cc))
+stage_known Reasoning = (inr (λ e. cc), inr (λ e. cc), inl refl, inr (λ e. cc))
+stage_known Wiped = (inr (λ e. cc), inr (λ e. cc), inr (λ e. cc), inl refl)
+stage_known _ = (inr (λ e. cc), inr (λ e. cc), inr (λ e. cc), inr (λ e. cc))
 
 -- ---- what every draft keeps to
 
@@ -186,10 +195,10 @@ pairs_declared variables (n ∷ ns) pairs are p m = elim (member_cases are.0 are
 ]
 
 -- before the first lemma, declarations keep to it
-keeps_variable : (d : Draft) (name : List ℕ) (values : List ℤ) → Keeps d → d.stage ≡ Declaring → Keeps (with_variable d name values)
+keeps_variable : (d : Draft) (name : List ℕ) (values : List ℤ) → Keeps d → d.stage ≡ Declaring → Keeps (books.declared d (with_variable d.book name values))
 keeps_variable d name values keeps stands =
     let none : d.lemmas ≡ [] = subst (λ s. AtStage s d) stands keeps.stage in
-    let next = with_variable d name values in
+    let next = books.declared d (with_variable d.book name values) in
     let longer = length-append d.book.variables (record { name = name; values = values } ∷ []) in
     record {
       over = λ c x m k. let lt = keeps.over c x m k in omega (arith, lt, longer);
@@ -198,10 +207,10 @@ keeps_variable d name values keeps stands =
       stage = subst (λ s. AtStage s next) (sym stands) none;
     }
 
-keeps_constraint : (d : Draft) (name : List ℕ) (con : Con) → Keeps d → d.lemmas ≡ [] → (HasConstraint d.book name → ⊥) → All (λ x. x < length d.book.variables) (scope con) → Keeps (with_constraint d name con)
+keeps_constraint : (d : Draft) (name : List ℕ) (con : Con) → Keeps d → d.lemmas ≡ [] → (HasConstraint d.book name → ⊥) → All (λ x. x < length d.book.variables) (scope con) → Keeps (books.listed d (with_listed d.book name con))
 keeps_constraint d name con keeps none fresh declared =
     let cs = d.book.constraints in
-    let next = with_constraint d name con in
+    let next = books.listed d (with_listed d.book name con) in
     record {
       over = λ c x m k. elim (Contains-push_cases cs (listed d.book name con) c m) [
         | inl o ↦ keeps.over c x o k
@@ -254,10 +263,10 @@ users_refuted d used is are free = record {
 keeps_leads : (d e : Draft) (line : List ℕ) (s : Statement ProofPhrase) → Keeps d → Says line s → IsNone (Meets d s) in_order → of_texts.Leads of_proofs d s e → Keeps e
 keeps_leads d e line Comment keeps says none leads = subst Keeps (sym leads) keeps
 keeps_leads d e line (Phrase Header) keeps says none leads =
-    let no_lemma : d.lemmas ≡ [] = subst (λ s. AtStage s d) (settled (is_unopened d.stage) none.0) keeps.stage in
+    let no_lemma : d.lemmas ≡ [] = subst (λ s. AtStage s d) (settled (stage_known d.stage).0 none.0) keeps.stage in
     subst Keeps (sym leads) (keeps_at d Declaring keeps no_lemma)
 keeps_leads d e line (Variable name domain) keeps says none leads =
-    subst Keeps (sym leads) (keeps_variable d name (values_in domain) keeps (settled (is_declaring d.stage) none.0))
+    subst Keeps (sym leads) (keeps_variable d name (values_in domain) keeps (settled (stage_known d.stage).1 none.0))
 keeps_leads d e line (Constraint name shape) keeps says none leads =
     let no_lemma = early_lemmas d.stage d none.0 keeps.stage in
     subst Keeps (sym leads.2) (keeps_constraint d name leads.0 keeps no_lemma (λ has. none.1.0 (inl has)) leads.1.declared)
@@ -270,18 +279,18 @@ keeps_leads d e line (Phrase (LemmaLine named)) keeps says none leads =
     } in
     subst Keeps (sym leads.2) begun
 keeps_leads d e line (Phrase (Step name value ground)) keeps says none leads =
-    let stands = settled (is_reasoning d.stage) none.0 in
+    let stands = settled (stage_known d.stage).2 none.0 in
     let pair : Pair = leads.0 in
     let proved = proved_more d pair ground leads.1 keeps (subst (λ s. AtStage s d) stands keeps.stage) leads.2.variable.declared leads.3
     (earlier_reasons d ground says.2.1 none.1.1.1.0) (λ wrong. none.1.1.1.1.0 (pair, leads.2, wrong)) in
     subst Keeps (sym leads.4) (keeps_step d pair leads.1 keeps stands proved)
 keeps_leads d e line (Phrase (Wipe name)) keeps says none leads =
-    let proved : AreProved d.book d.lemmas d.begun d.proved = subst (λ s. AtStage s d) (settled (is_reasoning d.stage) none.0) keeps.stage in
+    let proved : AreProved d.book d.lemmas d.begun d.proved = subst (λ s. AtStage s d) (settled (stage_known d.stage).2 none.0) keeps.stage in
     subst Keeps (sym leads) (keeps_wipe d keeps (λ b solution has. none.1.0 (λ known.
     let x = variable_with d.book.variables name known in
     wiped_true d x.0 proved x.1 (λ out. none.1.1.1.1.1.0 (x.0, record { declared = x.1; named = x.2 }, out)) b solution has)))
 keeps_leads d e line (Phrase (Users names)) keeps says none leads =
-    let is : IsTrue d.book d.lemmas d.begun = subst (λ s. AtStage s d) (settled (is_wiped d.stage) none.0) keeps.stage in
+    let is : IsTrue d.book d.lemmas d.begun = subst (λ s. AtStage s d) (settled (stage_known d.stage).3 none.0) keeps.stage in
     let refuted = users_refuted d leads.0 is leads.1 (λ bound. none.1.1.1.1.1.0 (λ are. bound are.free)) in
     subst Keeps (sym leads.2) (keeps_at d (Told (users_of leads.0)) keeps refuted)
 keeps_leads d e line (Phrase End) keeps says none leads =

@@ -6,8 +6,8 @@ use Rattle.proof_check.proofs.body.ProofBody.begin.Goals as goal
 pub loop-pair-init : goal.loop-pair-init
 loop-pair-init c =
     let book = c.args.listed.now.book in record {
-      kept = record { lists = c.requires.kept.lists; kept = c.clear.ensures.kept book c.requires.kept.kept };
-      begins = begins_none (said book c.args.self.now) c.args.named.now (said book c.clear.new.self) (c.clear.ensures.begun book);
+      kept = record { lists = c.requires.kept.lists; kept = c.in_ok-clear.ensures.kept book c.requires.kept.kept };
+      begins = begins_none (said book c.args.self.now) c.args.named.now (said book c.clear.new.self) (c.in_ok-clear.ensures.begun book);
     }
 
 pub returns-then-not-branch-clause-takes : goal.returns-then-not-branch-clause-takes

@@ -4,7 +4,7 @@ use Rattle.palm_claim.specs.declared.ground.Ground.TheVariants.{Assumed}
 use Rattle.proof_check.specs.Kept.{IsOther, said}
 use Rattle.proof_check.proofs.Assuming.{assumed_other, other_assumed}
 use Rattle.proof_check.proofs.Grounds.{takes_not_right, takes_right}
-use Rattle.proof_check.proofs.Keeping.{keeps_step_assumed}
+use Rattle.proof_check.proofs.Keeping.{keeps_step}
 use Rattle.proof_check.proofs.body.ProofBody.prove_assumed.Goals as goal
 
 pub returns-then-not-is_other_assumed-clause-takes : goal.returns-then-not-is_other_assumed-clause-takes
@@ -26,5 +26,7 @@ returns-clause-kept c =
     let now = c.args.self.now in
     record {
       lists = c.requires.kept.lists;
-      kept = keeps_step_assumed c.args.listed.now.book now.lemmas now.begun now.assumed.items now.proved.items c.requires.kept.kept c.args.pair c.push.new.self.items c.requires.declared c.in_ok-push.ensures.items;
+      kept =
+          keeps_step c.args.listed.now.book now.lemmas now.begun now.assumed.items now.proved.items c.requires.kept.kept now.begun c.args.pair c.push.new.self.items c.requires.declared c.in_ok-push.ensures.items
+          c.requires.kept.kept.assumes c.requires.kept.kept.last;
     }

@@ -1,10 +1,10 @@
-use Rattle.std.proofs.Common.{ℕ, ◌≤◌, List, length, ◌≡◌, ◌∙◌, Some, ap, arith, inr, refl, slice_get, sym}
+use Rattle.std.proofs.Common.{◌+◌, ◌≤◌, length, ◌≡◌, ◌∙◌, Some, ap, arith, inr, refl, slice_get, sym}
 use Rattle.std.proofs.lemmas.List.Elements.{All-contains}
 use Rattle.std.proofs.lemmas.Option.{same_Some}
 use Rattle.palm_base.proofs.cited.Members.{member_get}
 use Rattle.palm_book.specs.declared.book.BookCon.{BookCon}
 use Rattle.proof_check.specs.Kept.{noting_constraint}
-use Rattle.proof_check.proofs.Keeping.{keeps_step_by}
+use Rattle.proof_check.proofs.Keeping.{keeps_step, noted_constraint}
 use Rattle.proof_check.proofs.body.ProofBody.prove_by.Goals as goal
 
 pub check_step-requires-clause-proved : goal.check_step-requires-clause-proved
@@ -46,7 +46,7 @@ returns-in_ok-push-in-Ok-2-clause-kept c =
     let grown = rw c.from.ensures at c.in_ok-push-in-Ok.ensures.ok in
     record {
       lists = c.in_ok-cause.ensures.listed;
-      kept = rw c.in_ok-cause.ensures.same
-          (keeps_step_by book now.lemmas now.begun now.assumed.items now.proved.items c.requires.kept.kept _ c.args.pair c.push-in-Ok.new.self.items con.number c.requires.declared c.in_ok-push-in-Ok-2.ensures.items
-          (ap (λ (ns : List ℕ). record now.begun { constraints = ns }) grown) (omega (arith, most)));
+      kept = rw (c.in_ok-cause.ensures.same, grown)
+          (keeps_step book now.lemmas now.begun now.assumed.items now.proved.items c.requires.kept.kept (noting_constraint now.begun con.number) c.args.pair c.push-in-Ok.new.self.items c.requires.declared
+          c.in_ok-push-in-Ok-2.ensures.items c.requires.kept.kept.assumes (noted_constraint (length cs + 1) (length now.lemmas) now.begun con.number c.requires.kept.kept.last (omega (arith, most))));
     }

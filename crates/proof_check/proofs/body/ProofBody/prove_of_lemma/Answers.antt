@@ -1,4 +1,4 @@
-use Rattle.std.proofs.Common.{◌≡◌, ◌∙◌, ◌-◌, ◌<◌, ◌≤◌, ℕ, List, Some, length, get_or, refl, sym, ap, arith, slice_get}
+use Rattle.std.proofs.Common.{◌≡◌, ◌∙◌, ◌+◌, ◌-◌, ◌<◌, ◌≤◌, ℕ, List, Some, length, get_or, refl, sym, ap, arith, slice_get}
 use Rattle.std.proofs.lemmas.Option.{slice_get-get_or}
 use Rattle.palm_base.proofs.cited.Telling.{tells_false, tells_true}
 use Rattle.palm_claim.specs.Step.{IsOfLemma}
@@ -8,7 +8,7 @@ use Rattle.proof_check.specs.Kept.{noting_lemma, said}
 use Rattle.proof_text.specs.declared.lemma.Lemma.{Lemma}
 use Rattle.proof_check.proofs.Assuming.{tells_of_lemma}
 use Rattle.proof_check.proofs.Grounds.{takes_not_right, takes_right}
-use Rattle.proof_check.proofs.Keeping.{keeps_step_of_lemma}
+use Rattle.proof_check.proofs.Keeping.{keeps_step, noted_lemma}
 use Rattle.proof_check.proofs.body.ProofBody.prove_of_lemma.Goals as goal
 
 -- the lemma that is read is the one with the number
@@ -48,7 +48,8 @@ returns-clause-kept c =
     let most : c.args.number ≤ length now.lemmas = omega (arith, c.if-number-len.false, c.len.ensures) in
     record {
       lists = c.requires.kept.lists;
-      kept =
-          keeps_step_of_lemma c.args.listed.now.book now.lemmas now.begun now.assumed.items now.proved.items c.requires.kept.kept _ c.args.pair c.push-2.new.self.items c.args.number c.requires.declared
-          c.in_ok-push-2.ensures.items (ap (λ (ks : List ℕ). record now.begun { lemmas = ks }) c.in_ok-push.ensures.ok) (c.requires.range.0, most);
+      kept = rw c.in_ok-push.ensures.ok
+          (keeps_step c.args.listed.now.book now.lemmas now.begun now.assumed.items now.proved.items c.requires.kept.kept (noting_lemma now.begun c.args.number) c.args.pair c.push-2.new.self.items
+          c.requires.declared c.in_ok-push-2.ensures.items c.requires.kept.kept.assumes
+          (noted_lemma (length c.args.listed.now.book.constraints + 1) (length now.lemmas) now.begun c.args.number c.requires.kept.kept.last (c.requires.range.0, most)));
     }
