@@ -2,7 +2,6 @@ pub mod Built
 pub mod cited
 pub mod Cites
 pub mod Declaring
-pub mod Made
 pub mod Moving
 pub mod Proving
 pub mod Renumbering

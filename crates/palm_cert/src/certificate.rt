@@ -1,14 +1,14 @@
 //! Writing a certificate, a line at a time, so that no whole text is held.
-ghost use Rattle.std.specs.Prelude.{◌≡◌, ◌<◌, [], ◌∷◌, length, flat_map, All, Contains, OnOk};
-ghost use Rattle.palm_book.specs.Book.{HasNumber, active_of, initial_of, number_name};
+ghost use Rattle.std.specs.Prelude.{◌≡◌, ◌<◌, List, [], ◌∷◌, length, flat_map, All, Contains, OnOk};
+ghost use Rattle.palm_book.specs.Book.{HasNumber, IsUser, active_of, initial_of, number_name};
 ghost use Rattle.palm_cert.specs.Accepted.{IsAccepted};
-ghost use Rattle.palm_cert.specs.Certificate.{added_line, certificate_text, claim_line, claim_var, declarations, declared_line, step_line, step_words, used};
-ghost use Rattle.palm_cert.specs.Needs.{AreNeeds, AreSteps, CanClaim, IsOfBook, marked, removals_at};
-ghost use Rattle.palm_explain.specs.Explanations.{IsLinked};
+ghost use Rattle.palm_cert.specs.Certificate.{added_line, certificate_text, cited, claim_line, claim_var, declarations, declared_line, step_line, step_words, used};
+ghost use Rattle.palm_cert.specs.Needs.{AreNeeds, AreSteps, CanClaim, IsOfBook, cites_of, removals_at};
 ghost use Rattle.palm_lang.specs.Reply.{ended};
 ghost use Rattle.palm_lang.specs.Writer.{Wrote};
 ghost use Rattle.palm_lang.specs.Writing.{Writes};
 ghost use Rattle.palm_model.specs.Constraint.{scope};
+ghost use Rattle.palm_model.specs.Log.{Removal};
 ghost use Rattle.palm_read.specs.Words.{spaced};
 
 use crate::lines::{put_added, put_claim, put_step};
@@ -57,10 +57,7 @@ fn write_lines<K: Sink>(
     claim: &Claim,
     writer: &mut Writer<'_, K>,
 ) -> Result<(), CertStop>
-    requires linked { IsLinked log.now.log }
-    requires logged { All (IsOfBook book.now) log.now.log }
-    requires variable { claim_var claim.now < length book.now.variables }
-    requires needs { AreNeeds book.now log.now.log claim.now needs.now }
+    requires { AreNeeds book.now log.now.log claim.now needs.now }
     ensures { Wrote K.state writer.old writer.new (certificate_text book.now log.now.log claim.now) result }
 {
     write_declarations(book, &needs.cited, claimed_var(claim), writer)?;
@@ -73,30 +70,32 @@ fn write_lines<K: Sink>(
 /// Writes the header, the variables and the constraints.
 fn write_declarations<K: Sink>(
     book: &Book,
-    cited: &[bool],
+    marks: &[bool],
     claimed: Var,
     writer: &mut Writer<'_, K>,
 ) -> Result<(), CertStop>
-    requires { length cited.now ≡ length book.now.constraints }
-    ensures { Wrote K.state writer.old writer.new (declarations book.now (marked cited.now book.now.constraints) claimed) result }
+    requires { length marks.now ≡ length book.now.constraints }
+    ensures { (rs : List Removal) → marks.now ≡ cites_of book.now rs
+        → Wrote K.state writer.old writer.new (declarations book.now (cited rs book.now) claimed) result }
 {
     writer.text(b"palm-cert 1\n")?;
-    write_variables(book, cited, claimed, writer)?;
-    write_constraints(book, cited, writer)
+    write_variables(book, marks, claimed, writer)?;
+    write_constraints(book, marks, writer)
 }
 
 /// Writes the variables that are used.
 fn write_variables<K: Sink>(
     book: &Book,
-    cited: &[bool],
+    marks: &[bool],
     claimed: Var,
     writer: &mut Writer<'_, K>,
 ) -> Result<(), CertStop>
-    requires { length cited.now ≡ length book.now.constraints }
-    ensures { Wrote K.state writer.old writer.new (flat_map (declared_line book.now.variables) (used (marked cited.now book.now.constraints) claimed book.now)) result }
+    requires { length marks.now ≡ length book.now.constraints }
+    ensures { (rs : List Removal) → marks.now ≡ cites_of book.now rs
+        → Wrote K.state writer.old writer.new (flat_map (declared_line book.now.variables) (used (cited rs book.now) claimed book.now)) result }
 {
     for index in 0..book.variables() {
-        if is_used(book, cited, claimed, Var(index)) {
+        if is_used(book, marks, claimed, Var(index)) {
             writer.variable(book, Var(index))?;
         }
     }
@@ -106,16 +105,17 @@ fn write_variables<K: Sink>(
 /// Writes the constraints that are marked.
 fn write_constraints<K: Sink>(
     book: &Book,
-    cited: &[bool],
+    marks: &[bool],
     writer: &mut Writer<'_, K>,
 ) -> Result<(), CertStop>
-    requires { length cited.now ≡ length book.now.constraints }
-    ensures { Wrote K.state writer.old writer.new (flat_map (added_line book.now.variables) (marked cited.now book.now.constraints)) result }
+    requires { length marks.now ≡ length book.now.constraints }
+    ensures { (rs : List Removal) → marks.now ≡ cites_of book.now rs
+        → Wrote K.state writer.old writer.new (flat_map (added_line book.now.variables) (cited rs book.now)) result }
 {
     for place in 0..book.constraints() {
-        let is_cited = cited[place];
-        if is_cited {
-            write_added(book, book.constraint(place), writer)?;
+        let entry = book.constraint(place);
+        if marks[place] {
+            write_added(book, entry, writer)?;
         }
     }
     Ok(())
@@ -142,7 +142,7 @@ fn write_steps<K: Sink>(
     writer: &mut Writer<'_, K>,
 ) -> Result<(), CertStop>
     requires steps { AreSteps log.now.log steps.now }
-    requires logged { All (IsOfBook book.now) log.now.log }
+    requires logged { All (IsOfBook book.now (IsUser book.now)) log.now.log }
     ensures { Wrote K.state writer.old writer.new (flat_map (step_line book.now (removals_at log.now.log steps.now)) (removals_at log.now.log steps.now)) result }
 {
     for place in steps {
@@ -161,7 +161,7 @@ fn write_step<K: Sink>(
     writer: &mut Writer<'_, K>,
 ) -> Result<(), CertStop>
     requires steps { AreSteps log.now.log steps.now }
-    requires logged { All (IsOfBook book.now) log.now.log }
+    requires logged { All (IsOfBook book.now (IsUser book.now)) log.now.log }
     requires step { Contains steps.now place }
     ensures { Wrote K.state writer.old writer.new (flat_map (step_line book.now (removals_at log.now.log steps.now)) (removals_at log.now.log (place ∷ []))) result }
 {

@@ -1,5 +1,6 @@
 //! Which removals of a log a claim needs, which numbers they have as steps, and which constraints made them.
 ghost use Rattle.std.specs.Prelude.{◌≡◌, ◌-◌, ◌<◌, ◌≤◌, ◌++◌, List, [], ◌∷◌, length, true, All, Contains, IfOk, OnOk, Some, slice_get, slice_set};
+ghost use Rattle.palm_book.specs.Book.{IsUser};
 ghost use Rattle.palm_cert.specs.Certificate.{claim_var, claimed};
 ghost use Rattle.palm_cert.specs.Needs.{AreNeeds, AreSteps, IsNumbered, IsNumberOf, IsOfBook, cites_of, numbers_at, removals_at};
 ghost use Rattle.palm_explain.specs.Explanations.{IsLinked};
@@ -28,7 +29,7 @@ pub fn needs_of(
     claim: &Claim,
 ) -> Result<Needs, NoMemory>
     requires linked { IsLinked log.now.log }
-    requires logged { All (IsOfBook book.now) log.now.log }
+    requires logged { All (IsOfBook book.now (IsUser book.now)) log.now.log }
     requires variable { claim_var claim.now < length book.now.variables }
     ensures { IfOk result (AreNeeds book.now log.now.log claim.now) }
 {
@@ -70,7 +71,7 @@ fn cited_by(
     log: &ExplainStore,
     steps: &[usize],
 ) -> Result<Vec<bool>, NoMemory>
-    requires logged { All (IsOfBook book.now) log.now.log }
+    requires logged { All (IsOfBook book.now (IsUser book.now)) log.now.log }
     requires within { All (λ place. place < length log.now.log) steps.now }
     ensures { IfOk result (λ cited. cited.items ≡ cites_of book.now (removals_at log.now.log steps.now)) }
 {

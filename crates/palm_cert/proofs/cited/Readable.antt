@@ -1,5 +1,5 @@
 -- Each line of a certificate says what was written.
-use Rattle.std.proofs.Common.{◌≡◌, ℕ, ◌≤◌, Bool, true, false, cond, List, [], ◌∷◌, ℤ, length, codes, filter, All, Any, Contains, inl, inr, refl, sym, ap, ◌∙◌, subst, arith, nat_eq}
+use Rattle.std.proofs.Common.{◌≡◌, ℕ, ◌≤◌, Bool, true, false, cond, List, [], ◌∷◌, ℤ, length, codes, All, Any, Contains, inl, inr, refl, sym, ap, ◌∙◌, subst, arith, nat_eq}
 use Rattle.std.proofs.lemmas.Bool.{false≢true, eq-eqb}
 use Rattle.std.proofs.lemmas.List.{length-map}
 use Rattle.std.proofs.lemmas.List.Elements.{All-contains, All-head, All-tail}
@@ -7,8 +7,8 @@ use Rattle.std.proofs.lemmas.List.Sums.{AllPass-from_list_all}
 use Rattle.palm_base.specs.declared.terms.Pair.{Pair}
 use Rattle.palm_base.specs.declared.terms.Cid.{Cid}
 use Rattle.palm_base.specs.declared.terms.Cid.TheVariants.{User}
-use Rattle.palm_base.proofs.cited.Members.{filter_member, member_same, member_unmap}
-use Rattle.palm_book.specs.Book.{Contents, BookVar, IsBook, active_of, initial_of, name_of, number_name, user_at, user_name, values_at}
+use Rattle.palm_base.proofs.cited.Members.{filter_member, member_same}
+use Rattle.palm_book.specs.Book.{Contents, BookVar, IsBook, active_of, initial_of, name_of, number_name, user_name, values_at}
 use Rattle.palm_book.specs.declared.book.BookCon.{BookCon}
 use Rattle.palm_book.proofs.cited.Any.{any_cases, any_member, any_none}
 use Rattle.palm_book.proofs.cited.WellFormed.{named_near}
@@ -38,7 +38,7 @@ use Rattle.palm_events.specs.Scoped.{HasScopedReasons}
 use Rattle.palm_cert.proofs.cited.Declared.{are_values, name_text, named_read, variable_says}
 use Rattle.palm_cert.proofs.cited.Lengths.{are_step_numbers, numbers_few, over_few, over_member, pairs_over, within_book}
 use Rattle.palm_cert.proofs.cited.Links.{Apart, linked_apart, pair_logged, pair_removal}
-use Rattle.palm_cert.proofs.cited.Logged.{declared_from}
+use Rattle.palm_cert.proofs.cited.Logged.{declared_from, owner_of}
 use Rattle.palm_cert.proofs.cited.Needed.{right_linked, steps_founded}
 use Rattle.palm_cert.proofs.cited.Reached.{values_same}
 use Rattle.palm_cert.proofs.cited.Saying.{conflict_claim_length, conflict_claim_says, step_length, step_says, value_claim_length, value_claim_says}
@@ -129,12 +129,6 @@ module _ (s : EngineState) (valid : IsValid s) (pairs : List Pair) where
 -- ---- the certificate of an engine with the book's constraints
 
 module _ (s : EngineState) (book : Contents) (is : IsBook book) (valid : IsValid s) (initial : s.initial ≡ initial_of book) (active : s.active ≡ active_of book) where
-  -- an active constraint is one of the book
-  owner_of : (a : Active) → Contains s.active a → (c : BookCon) × Contains book.constraints c × (user_at c ≡ a)
-  owner_of a m =
-      let r = member_unmap user_at (filter (λ (c : BookCon). c.active) book.constraints) a (subst (λ (list : List Active). Contains list a) active m) in
-      (r.0, (filter_member (λ (c : BookCon). c.active) book.constraints r.0 r.1).0, r.2)
-
   constraint_formed : (c : BookCon) → Contains book.constraints c → IsWellFormed (length book.variables) c.con
   constraint_formed c m = All-contains (λ (d : BookCon). IsWellFormed (length book.variables) d.con) book.constraints c is.formed m
 
@@ -145,7 +139,7 @@ module _ (s : EngineState) (book : Contents) (is : IsBook book) (valid : IsValid
     by_name : (r : Removal) → Contains (steps_of s.log pairs) r → IsNameText (user_name book.constraints r.by)
     by_name r m =
         let own = scoped r (step_logged s valid pairs r m) in
-        let c = owner_of own.owner own.posted in
+        let c = owner_of book own.owner (subst (λ (list : List Active). Contains list own.owner) active own.posted) in
         let by : User c.0.number ≡ r.by = ap (λ (a : Active). a.cid) c.2 ∙ own.named in
         subst (λ (cid : Cid). IsNameText (user_name book.constraints cid)) by
         (number_text book.constraints c.0.number is.constraint_names (any_member (λ (d : BookCon). d.number ≡ c.0.number) book.constraints c.0 c.1 refl))
@@ -160,7 +154,7 @@ module _ (s : EngineState) (book : Contents) (is : IsBook book) (valid : IsValid
         let pair = pair_logged steps r m in
         let has = declared r.pair pair in
         let own = scoped r (step_logged s valid pairs r m) in
-        let c = owner_of own.owner own.posted in
+        let c = owner_of book own.owner (subst (λ (list : List Active). Contains list own.owner) active own.posted) in
         let formed : IsWellFormed (length book.variables) own.owner.con = subst (λ (a : Active). IsWellFormed (length book.variables) a.con) c.2 (constraint_formed c.0 c.1) in
         let short = step_short book is steps apart declared r by own.owner.con pair (by_name r m) formed (λ p k. (own.others p k).0) in
         step_says book.variables r.pair by (numbers_of steps r.reasons) (pair_name book is r.pair has) (by_name r m) (pair_value book is r.pair has) (reasons_numbered book is steps apart declared r.reasons) short

@@ -1,30 +1,24 @@
-use Rattle.std.proofs.Common.{rules, List, All, sym, ap, subst}
+use Rattle.std.proofs.Common.{rules, Result, Ok, Err, List, ap}
 use Rattle.palm_model.specs.Log.{Removal}
+use Rattle.std.specs.Prelude.{OnOk}
 use Rattle.palm_cert.specs.Certificate.{certificate_text}
-use Rattle.palm_cert.specs.Needs.{IsOfBook}
 use Rattle.palm_cert.proofs.cited.Accepted.{certificate_accepted}
-use Rattle.palm_cert.proofs.cited.Logged.{claim_declared, log_of_book}
-use Rattle.palm_cert.proofs.Made.{at_ok}
+use Rattle.palm_cert.proofs.cited.Logged.{claim_declared, users_logged}
 use Rattle.palm_cert.proofs.cited.Readable.{readable}
 use Rattle.palm_lang.proofs.cited.Wrote.{wrote_text}
 use Rattle.palm_cert.proofs.certificate.write_cert.Goals as goal
 
+-- what holds of a text holds of it where it was written
+at_ok : {T E P : Type 0} (r : Result T E) → P → OnOk r P
+at_ok (Ok t) p = p
+at_ok (Err e) p = tt
+
 pub needs_of-requires-clause-logged : goal.needs_of-requires-clause-logged
 needs_of-requires-clause-logged g c =
-    subst (λ (log : List Removal). All (IsOfBook c.args.book.now) log) (sym c.log-log.ensures)
-    (log_of_book c.args.engine.now.state c.args.book.now c.store.ensures.valid c.requires.initial c.requires.active)
+    rw c.log-log.ensures (users_logged c.args.engine.now.state c.args.book.now c.store.ensures.valid c.requires.initial c.requires.active)
 
 pub needs_of-requires-clause-variable : goal.needs_of-requires-clause-variable
 needs_of-requires-clause-variable g c =
-    claim_declared c.args.engine.now.state c.args.book.now c.store.ensures.valid c.requires.initial c.requires.active c.args.claim c.requires.holds
-
-pub write_lines-requires-clause-logged : goal.write_lines-requires-clause-logged
-write_lines-requires-clause-logged g c =
-    subst (λ (log : List Removal). All (IsOfBook c.args.book.now) log) (sym c.log-log.ensures)
-    (log_of_book c.args.engine.now.state c.args.book.now c.store.ensures.valid c.requires.initial c.requires.active)
-
-pub write_lines-requires-clause-variable : goal.write_lines-requires-clause-variable
-write_lines-requires-clause-variable g c =
     claim_declared c.args.engine.now.state c.args.book.now c.store.ensures.valid c.requires.initial c.requires.active c.args.claim c.requires.holds
 
 pub returns-clause-text : goal.returns-clause-text

@@ -4,7 +4,7 @@ use Rattle.std.proofs.lemmas.List.Elements.{All-contains}
 use Rattle.palm_model.specs.Log.{Removal}
 use Rattle.palm_cert.specs.Needs.{cites_of, removals_at}
 use Rattle.palm_cert.proofs.Cites.{uncited}
-use Rattle.palm_cert.proofs.cited.Logged.{by_of, some_removal, user_at_place, user_numbered}
+use Rattle.palm_cert.proofs.cited.Logged.{by_at_place, by_of, some_removal, user_numbered}
 use Rattle.palm_cert.proofs.cited.Stepped.{removals_more}
 use Rattle.palm_cert.proofs.needs.cited_by.Goals as goal
 
@@ -17,7 +17,7 @@ by_at-requires c = All-contains (λ (place : ℕ). place < length c.args.log.now
 pub number_of-requires : goal.number_of-requires
 number_of-requires c =
     let within = All-contains (λ (place : ℕ). place < length c.args.log.now.log) c.args.steps.now (slice_index_or c.args.steps.now c.loop-place.place-index 0) c.requires.within (read c.args.steps.now c.loop-place.place-index c.loop-place-test.true) in
-    user_numbered c.args.book.now c.by_at.result (user_at_place c.args.book.now c.args.log.now.log c.requires.logged (slice_index_or c.args.steps.now c.loop-place.place-index 0) within c.by_at.result c.by_at.ensures)
+    user_numbered c.args.book.now c.by_at.result (by_at_place c.args.book.now _ c.args.log.now.log c.requires.logged (slice_index_or c.args.steps.now c.loop-place.place-index 0) within c.by_at.result c.by_at.ensures)
 
 pub loop-place-init : goal.loop-place-init
 loop-place-init c = c.in_ok-cited.ensures.items_if_clones_equal (λ y e. e) ∙ ap (λ (n : ℕ). replicate n false) c.constraints.ensures.count ∙ uncited c.args.book.now.constraints
