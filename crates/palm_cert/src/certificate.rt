@@ -162,6 +162,7 @@ fn write_step<K: Sink>(
 ) -> Result<(), CertStop>
     requires steps { AreSteps log.now.log steps.now }
     requires logged { All (IsOfBook book.now (IsUser book.now)) log.now.log }
+    requires place { place < length log.now.log }
     requires step { Contains steps.now place }
     ensures { Wrote K.state writer.old writer.new (flat_map (step_line book.now (removals_at log.now.log steps.now)) (removals_at log.now.log (place ∷ []))) result }
 {

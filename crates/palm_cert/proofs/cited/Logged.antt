@@ -89,15 +89,16 @@ declared_from initial active earlier (s ∷ rest) right r m = elim (member_cases
   | inr k ↦ declared_from initial active (earlier ++ s ∷ []) rest right.1 r k
 ]
 
+-- domains of the book's variables
+pub as_long : (d : Domains) (book : Contents) → d ≡ initial_of book → length d ≡ length book.variables
+as_long d book e = ap (λ (f : Domains). length f) e ∙ length-map book.variables (λ (v : BookVar). v.values)
+
 -- the state has the variables of the book
 module _ (s : EngineState) (book : Contents) (valid : IsValid s) (initial : s.initial ≡ initial_of book) where
-  pub long : length s.initial ≡ length book.variables
-  long = ap (λ (d : Domains). length d) initial ∙ length-map book.variables (λ (e : BookVar). e.values)
-
   -- where what is active is named so
   pub log_of_book : (By : Cid → Type 0) → ((c : Cid) → IsActive s.active c → By c) → All (IsOfBook book By) s.log
   log_of_book By named = all_members (IsOfBook book By) s.log (λ r m. record {
-    variable = subst (λ (n : ℕ). r.pair.var < n) long (has_declared s.initial r.pair.var r.pair.value (declared_from s.initial s.active [] s.log valid.founded r m));
+    variable = subst (λ (n : ℕ). r.pair.var < n) (as_long s.initial book initial) (has_declared s.initial r.pair.var r.pair.value (declared_from s.initial s.active [] s.log valid.founded r m));
     by = named r.by (cids_active s.initial s.active s.log r.by valid.founded r m (by_itself r refl));
   })
 
@@ -111,4 +112,4 @@ module _ (s : EngineState) (book : Contents) (valid : IsValid s) (initial : s.in
   claim_declared (Gone pair) can =
       let r = pair_removal s.log pair can in
       subst (λ (q : Pair). q.var < length book.variables) r.2 (All-contains (IsOfBook book (IsUser book)) s.log r.0 users_logged r.1).variable
-  claim_declared (Conflict x) can = subst (λ (n : ℕ). x < n) (length_without s.initial (log_pairs s.log) ∙ long s book valid initial) can.exists
+  claim_declared (Conflict x) can = subst (λ (n : ℕ). x < n) (length_without s.initial (log_pairs s.log) ∙ as_long s.initial book initial) can.exists

@@ -1,14 +1,13 @@
 -- Each line of a certificate says what was written.
 use Rattle.std.proofs.Common.{◌≡◌, ℕ, ◌≤◌, Bool, true, false, cond, List, [], ◌∷◌, ℤ, length, codes, All, Any, Contains, inl, inr, refl, sym, ap, ◌∙◌, subst, arith, nat_eq}
 use Rattle.std.proofs.lemmas.Bool.{false≢true, eq-eqb}
-use Rattle.std.proofs.lemmas.List.{length-map}
 use Rattle.std.proofs.lemmas.List.Elements.{All-contains, All-head, All-tail}
 use Rattle.std.proofs.lemmas.List.Sums.{AllPass-from_list_all}
 use Rattle.palm_base.specs.declared.terms.Pair.{Pair}
 use Rattle.palm_base.specs.declared.terms.Cid.{Cid}
 use Rattle.palm_base.specs.declared.terms.Cid.TheVariants.{User}
 use Rattle.palm_base.proofs.cited.Members.{filter_member, member_same}
-use Rattle.palm_book.specs.Book.{Contents, BookVar, IsBook, active_of, initial_of, name_of, number_name, user_name, values_at}
+use Rattle.palm_book.specs.Book.{Contents, IsBook, active_of, initial_of, name_of, number_name, user_name, values_at}
 use Rattle.palm_book.specs.declared.book.BookCon.{BookCon}
 use Rattle.palm_book.proofs.cited.Any.{any_cases, any_member, any_none}
 use Rattle.palm_book.proofs.cited.WellFormed.{named_near}
@@ -38,7 +37,7 @@ use Rattle.palm_events.specs.Scoped.{HasScopedReasons}
 use Rattle.palm_cert.proofs.cited.Declared.{are_values, name_text, named_read, variable_says}
 use Rattle.palm_cert.proofs.cited.Lengths.{are_step_numbers, numbers_few, over_few, over_member, pairs_over, within_book}
 use Rattle.palm_cert.proofs.cited.Links.{Apart, linked_apart, pair_logged, pair_removal}
-use Rattle.palm_cert.proofs.cited.Logged.{declared_from, owner_of}
+use Rattle.palm_cert.proofs.cited.Logged.{as_long, declared_from, owner_of}
 use Rattle.palm_cert.proofs.cited.Needed.{right_linked, steps_founded}
 use Rattle.palm_cert.proofs.cited.Reached.{values_same}
 use Rattle.palm_cert.proofs.cited.Saying.{conflict_claim_length, conflict_claim_says, step_length, step_says, value_claim_length, value_claim_says}
@@ -167,7 +166,7 @@ module _ (s : EngineState) (book : Contents) (is : IsBook book) (valid : IsValid
       value_claim_says book.variables pair named value (omega (arith, value_claim_length book.variables pair named value))
   claim_readable (Conflict x) can =
       let exists = can.exists in
-      let many : length (present s) ≡ length book.variables = length_without s.initial (log_pairs s.log) ∙ ap length initial ∙ length-map book.variables (λ (e : BookVar). e.values) in
+      let many : length (present s) ≡ length book.variables = length_without s.initial (log_pairs s.log) ∙ as_long s.initial book initial in
       let named = name_text book.variables x is.variable_names (omega (arith, exists, many)) in
       conflict_claim_says book.variables x named (omega (arith, conflict_claim_length book.variables x named))
 

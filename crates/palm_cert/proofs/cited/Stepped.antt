@@ -1,15 +1,15 @@
 -- The removals at rising places: where they are those that pairs need, they are the steps.
-use Rattle.std.proofs.Common.{◌≡◌, ℕ, zero, suc, ◌+◌, ◌-◌, ◌<◌, ◌≤◌, Bool, true, false, cond, Some, List, [], ◌∷◌, ◌++◌, length, take, drop, get_or, filter, flat_map, All, Contains, MatchResult, Result, inl, inr, refl, sym, ap, ◌∙◌, subst, append-nil, arith}
+use Rattle.std.proofs.Common.{◌≡◌, ℕ, zero, suc, ◌+◌, ◌-◌, ◌<◌, ◌≤◌, Bool, true, false, cond, Some, List, [], ◌∷◌, ◌++◌, length, take, drop, get_or, filter, flat_map, All, Contains, MatchResult, Result, Ok, Err, inl, inr, refl, sym, ap, ◌∙◌, subst, append-nil, arith}
 use Rattle.std.specs.Prelude.{slice_get}
 use Rattle.std.specs.List.Sorted.{IsBinarySearchResult}
 use Rattle.std.specs.Ordering.{nat_cmp}
 use Rattle.std.proofs.lemmas.Bool.{cases_lt}
 use Rattle.std.proofs.lemmas.Grind.{flat_map-append}
-use Rattle.std.proofs.lemmas.List.{take_more}
+use Rattle.std.proofs.lemmas.List.{get_or_default, take_more}
 use Rattle.std.proofs.lemmas.List.Sorted.{searched}
-use Rattle.std.proofs.lemmas.Option.{none-some, same_Some, slice_get_within}
+use Rattle.std.proofs.lemmas.Option.{none-some, same_Some, slice_get-get_or, slice_get_within}
 use Rattle.palm_base.specs.declared.terms.Pair.{Pair}
-use Rattle.palm_base.proofs.cited.Members.{all_members, flat_map_member, member_cases, member_flat_map, member_here, member_nil, member_same, member_single, member_there}
+use Rattle.palm_base.proofs.cited.Members.{all_members, flat_map_member, member_flat_map, member_here, member_nil, member_same, member_single, member_there}
 use Rattle.palm_model.specs.Log.{Removal, log_pairs}
 use Rattle.palm_explain.specs.Explanations.{IsLinked}
 use Rattle.palm_explain.specs.Needed.{AreNeeded, Climbs}
@@ -62,9 +62,6 @@ removals_more log places i place r lt at there =
     ∙ ap (λ (ps : List ℕ). removals_at log ps) (sym (take_more places i place lt))
 
 -- ---- texts
-
-pub text_one_at : (f : Removal → List ℕ) (log : List Removal) (place : ℕ) (r : Removal) → slice_get log place ≡ Some r → f r ≡ flat_map f (removals_at log (place ∷ []))
-text_one_at f log place r at = sym (ap (λ (rs : List Removal). flat_map f rs) (one_at log place r at) ∙ append-nil (f r))
 
 -- the text of the one at a place
 abbrev pub text_at : (Removal → List ℕ) → List Removal → ℕ → List ℕ
@@ -129,13 +126,21 @@ module _ (log : List Removal) (pairs : List Pair) (places : List ℕ) (linked : 
 
 -- ---- steps
 
--- a place that is looked for among rising ones
-pub found_by_halves : (places : List ℕ) (place : ℕ) (r : Result ℕ ℕ) → Climbs places → IsBinarySearchResult (λ y. nat_cmp y place) places r
-    → MatchResult r (λ i. (i < length places) × (get_or places i 0 ≡ place)) (λ i. (i ≤ length places) × ((k : ℕ) → k < i → get_or places k 0 < place) × ((k : ℕ) → i ≤ k → k < length places → place < get_or places k 0))
-found_by_halves places place r climbs found = searched places place r found (λ i j le lt. elim (cases_lt i j) [
+climbs_on : (places : List ℕ) → Climbs places → (i j : ℕ) → i ≤ j → j < length places → get_or places i 0 ≤ get_or places j 0
+climbs_on places climbs i j le lt = elim (cases_lt i j) [
   | inl l ↦ let less = climbs i j 0 l lt in omega (arith, less)
   | inr ge ↦ let e : i ≡ j = omega (arith, le, ge) in let same = ap (λ (k : ℕ). get_or places k 0) e in omega (arith, same)
-])
+]
+
+-- a place that is looked for among rising ones
+pub found_by_halves : (places : List ℕ) (place : ℕ) (r : Result ℕ ℕ) → Climbs places → IsBinarySearchResult (λ y. nat_cmp y place) places r → MatchResult r (λ i. slice_get places i ≡ Some place) (λ i. Contains places place → ⊥)
+found_by_halves places place (Ok i) climbs found =
+    let at = searched places place (Ok i) found (climbs_on places climbs) in
+    slice_get-get_or places i 0 at.0 ∙ ap Some at.1
+found_by_halves places place (Err i) climbs found = λ m.
+    let none = searched places place (Err i) found (climbs_on places climbs) in
+    let is = get_or_default places m.0 0 place m.1 ∙ m.2 in
+    elim (cases_lt m.0 i) [ inl l ↦ let less = none.1 m.0 l in omega (arith, less, is) | inr ge ↦ let more = none.2 m.0 ge m.1 in omega (arith, more, is) ]
 
 module _ (log : List Removal) (places : List ℕ) (steps : AreSteps log places) where
   pub steps_apart : Apart (log_pairs (removals_at log places))

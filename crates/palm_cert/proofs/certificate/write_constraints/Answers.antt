@@ -1,7 +1,7 @@
-use Rattle.std.proofs.Common.{true, false, arith}
+use Rattle.std.proofs.Common.{true, false}
 use Rattle.palm_cert.specs.Certificate.{added_line, is_cited}
 use Rattle.palm_cert.proofs.Uses.{mark_tells}
-use Rattle.palm_cert.proofs.cited.Filtered.{wrote_failed, wrote_filtered, wrote_passed, wrote_stopped}
+use Rattle.palm_cert.proofs.cited.Filtered.{wrote_failed, wrote_passed, wrote_stopped}
 use Rattle.palm_cert.proofs.certificate.write_constraints.Goals as goal
 use Rattle.palm_cert.proofs.certificate.write_constraints.Goals.{then-marks-place+in_ok-write_added, else-marks-place}
 
@@ -24,7 +24,3 @@ loop-place-preserved g c rs marked =
       | else-marks-place w ↦
           rw w.writer-is (wrote_failed line (is_cited rs) cs k entry at (mark_tells (is_cited rs) _ k _ false _ _ marked at w.if-marks-place.false) (c.loop-place.invariant rs marked))
     ]
-
-pub returns : goal.returns
-returns g c rs marked =
-    wrote_filtered (added_line c.args.book.now.variables) (is_cited rs) c.args.book.now.constraints c.loop-place.place (omega (arith, c.loop-place-test.false, c.constraints-place-end.ensures.count)) (c.loop-place.invariant rs marked)

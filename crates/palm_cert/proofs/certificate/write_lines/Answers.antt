@@ -20,9 +20,6 @@ text_made book log claim needs are places x there named =
     ∙ ap (λ (ps : List ℕ). declarations book constraints (claim_var claim) ++ proof_lines book (removals_at log ps) claim) there
     ∙ ap (λ (steps : List Removal). text_with book steps claim) (steps_found log (claimed book claim) needs.steps.items are.linked are.steps)
 
-pub write_steps-requires-clause-steps : goal.write_steps-requires-clause-steps
-write_steps-requires-clause-steps g c = record { pairs = claimed c.args.book.now c.args.claim.now; linked = c.requires.linked; needed = rw c.deref-2.ensures.value c.requires.steps }
-
 pub returns-in_err-write_declarations : goal.returns-in_err-write_declarations
 returns-in_err-write_declarations g c =
     let book = c.args.book.now in

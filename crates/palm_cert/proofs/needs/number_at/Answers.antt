@@ -5,9 +5,6 @@ use Rattle.palm_model.specs.Log.{log_pairs}
 use Rattle.palm_cert.specs.Needs.{removals_at}
 use Rattle.palm_cert.proofs.needs.number_at.Goals as goal
 
-pub number_from-requires-clause-climbs : goal.number_from-requires-clause-climbs
-number_from-requires-clause-climbs c = c.requires.steps.needed.climbs
-
 pub number_from-requires-clause-step : goal.number_from-requires-clause-step
 number_from-requires-clause-step c = step_at c.args.log.now.log c.args.steps.now c.requires.steps c.in-Some.place c.args.pair c.in-Some.ensures c.requires.proved
 

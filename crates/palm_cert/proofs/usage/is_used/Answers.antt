@@ -1,6 +1,6 @@
-use Rattle.std.proofs.Common.{◌∙◌, List, true, false, filter, take_all, sym, ap, arith, nat_eq}
+use Rattle.std.proofs.Common.{◌∙◌, true, false, sym, nat_eq}
 use Rattle.std.specs.List.{list_any}
-use Rattle.std.proofs.lemmas.Bool.{false≢true, or_from, or_right}
+use Rattle.std.proofs.lemmas.Bool.{false≢true, or_right}
 use Rattle.palm_book.specs.declared.book.BookCon.{BookCon}
 use Rattle.palm_model.specs.State.{is_over}
 use Rattle.palm_cert.specs.Certificate.{cited, is_cited}
