@@ -1,4 +1,4 @@
-use Rattle.std.proofs.Common.{◌++◌, List, [], refl, ap, sym, append_assoc}
+use Rattle.std.proofs.Common.{List, [], refl, ap}
 use Rattle.palm_base.specs.declared.terms.Pair.{Pair}
 use Rattle.palm_lang.specs.Reply.{fixed_text}
 use Rattle.palm_lang.specs.declared.reply.Fixed.TheVariants.{End}
@@ -13,9 +13,7 @@ returns-in_err-write_text_of_lemma g c undone x are empty =
     let book = c.args.book.now in
     let s = c.args.engine.now.state in
     let same = ap (λ (ps : List Pair). text_of_lemma book undone ps (wiped_by s x) x) (none_held [] refl c.args.search.now.decisions) in
-    let users = none_line book c.args.users.now in
-    wrote_text (sym (append_assoc (text_of_lemma book undone [] (wiped_by s x) x) users (fixed_text End)))
-    (wrote_front (users ++ fixed_text End) c.from_residual.ensures.1 (wrote_text same (c.in_err-write_text_of_lemma.ensures.lemma undone x are empty)))
+    wrote_front {T = Unit {0}} (fixed_text End) c.from_residual.ensures.1 (wrote_front (none_line book c.args.users.now) refl (wrote_text same (c.in_err-write_text_of_lemma.ensures.lemma undone x are empty)))
 
 pub returns-in_err-names : goal.returns-in_err-names
 returns-in_err-names g c undone x are empty =
