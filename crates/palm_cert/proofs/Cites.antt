@@ -51,14 +51,11 @@ cites_more book rs r = map_agree _ _ book.constraints (λ c m. sym (list_any-app
 by_number : (r : Removal) (n : ℕ) (c : BookCon) → r.by ≡ User n → is_cited (r ∷ []) c ≡ (nat_eq n c.number || false)
 by_number r n c e = ap (λ (b : Cid). same_cid b (User c.number) || false) e
 
-pub cites_none : (book : Contents) (rs : List Removal) (r : Removal) (n : ℕ) → r.by ≡ User n → ((j : ℕ) (c : BookCon) → slice_get book.constraints j ≡ Some c → c.number ≡ n → ⊥) → cites_of book rs ≡ cites_of book (rs ++ r ∷ [])
-cites_none book rs r n e none =
-    or_none (is_cited rs) (is_cited (r ∷ [])) book.constraints
-    (λ j c at. by_number r n c e ∙ or_from (nat_eq n c.number) false (ne_eqb n c.number (λ s. none j c at (sym s))) refl)
-    ∙ cites_more book rs r
-
 pub cites_missing : (book : Contents) (rs : List Removal) (r : Removal) (n : ℕ) → r.by ≡ User n → All (λ c. c.number ≢ n) book.constraints → cites_of book rs ≡ cites_of book (rs ++ r ∷ [])
-cites_missing book rs r n e none = cites_none book rs r n e (λ j c at is. All-contains (λ (d : BookCon). d.number ≢ n) book.constraints c none (member_get book.constraints j c at) is)
+cites_missing book rs r n e none =
+    or_none (is_cited rs) (is_cited (r ∷ [])) book.constraints
+    (λ j c at. by_number r n c e ∙ or_from (nat_eq n c.number) false (ne_eqb n c.number (λ s. All-contains (λ (d : BookCon). d.number ≢ n) book.constraints c none (member_get book.constraints j c at) (sym s))) refl)
+    ∙ cites_more book rs r
 
 same_number : (book : Contents) → IsBook book → (j k : ℕ) (c d : BookCon) → slice_get book.constraints j ≡ Some c → slice_get book.constraints k ≡ Some d → c.number ≡ d.number → j ≡ k
 same_number book is j k c d at there e = elim (cases_lt j k) [
@@ -76,13 +73,11 @@ same_number book is j k c d at there e = elim (cases_lt j k) [
         let second = ap (λ (z : BookCon). z.number) (get_or_from_slice_get book.constraints l b a y) in
         omega (arith, below, first, second)
 
-pub cites_one : (book : Contents) → IsBook book → (rs : List Removal) (r : Removal) (n place : ℕ) (c : BookCon) → r.by ≡ User n → slice_get book.constraints place ≡ Some c → c.number ≡ n → slice_set (cites_of book rs) place true ≡ cites_of book (rs ++ r ∷ [])
-cites_one book is rs r n place c e at number =
-    or_one (is_cited rs) (is_cited (r ∷ [])) book.constraints place c at
-    (by_number r n c e ∙ or_left (nat_eq n c.number) false (eq-eqb n c.number (sym number)))
-    (λ j d there other. by_number r n d e ∙ or_from (nat_eq n d.number) false (ne_eqb n d.number (λ s. other (same_number book is j place d c there at (sym s ∙ sym number)))) refl)
-    ∙ cites_more book rs r
-
 pub cites_found : (book : Contents) → IsBook book → (rs : List Removal) (r : Removal) (n place : ℕ) → r.by ≡ User n → IfSome (slice_get book.constraints place) (λ c. c.number ≡ n) × (place < length book.constraints) → slice_set (cites_of book rs) place true ≡ cites_of book (rs ++ r ∷ [])
 cites_found book is rs r n place e found =
-    let c = some_at book.constraints place found.1 in cites_one book is rs r n place c.0 e c.1 (rw c.1 at found.0)
+    let c = some_at book.constraints place found.1 in
+    let number : c.0.number ≡ n = rw c.1 at found.0 in
+    or_one (is_cited rs) (is_cited (r ∷ [])) book.constraints place c.0 c.1
+    (by_number r n c.0 e ∙ or_left (nat_eq n c.0.number) false (eq-eqb n c.0.number (sym number)))
+    (λ j d there other. by_number r n d e ∙ or_from (nat_eq n d.number) false (ne_eqb n d.number (λ s. other (same_number book is j place d c.0 there c.1 (sym s ∙ sym number)))) refl)
+    ∙ cites_more book rs r

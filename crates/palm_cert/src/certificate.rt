@@ -3,7 +3,7 @@ ghost use Rattle.std.specs.Prelude.{◌≡◌, ◌<◌, List, [], ◌∷◌, len
 ghost use Rattle.palm_book.specs.Book.{HasNumber, IsUser, active_of, initial_of, number_name};
 ghost use Rattle.palm_cert.specs.Accepted.{IsAccepted};
 ghost use Rattle.palm_cert.specs.Certificate.{added_line, certificate_text, cited, claim_line, claim_var, declarations, declared_line, step_line, step_words, used};
-ghost use Rattle.palm_cert.specs.Needs.{AreNeeds, AreSteps, CanClaim, IsOfBook, cites_of, removals_at};
+ghost use Rattle.palm_cert.specs.Needs.{AreSteps, CanClaim, IsOfBook, cites_of, removals_at};
 ghost use Rattle.palm_lang.specs.Reply.{ended};
 ghost use Rattle.palm_lang.specs.Writer.{Wrote};
 ghost use Rattle.palm_lang.specs.Writing.{Writes};
@@ -12,7 +12,7 @@ ghost use Rattle.palm_model.specs.Log.{Removal};
 ghost use Rattle.palm_read.specs.Words.{spaced};
 
 use crate::lines::{put_added, put_claim, put_step};
-use crate::needs::{Needs, claimed_var, collect_numbers, needs_of, number_of};
+use crate::needs::{claimed_var, collect_numbers, needs_of, number_of};
 use crate::usage::is_used;
 use palm_base::{NoMemory, Pair, Sink, Var};
 use palm_engine::Engine;
@@ -45,25 +45,10 @@ pub fn write_cert<F: Filter, K: Sink>(
     let needs = needs_of(alloc, book, log, &claim)?;
     let mut buffer = Vec::new(alloc);
     let mut writer = Writer::new(out, &mut buffer);
-    write_lines(alloc, book, log, &needs, &claim, &mut writer)
-}
-
-/// Writes the lines of a certificate of the claim, by what it needs.
-fn write_lines<K: Sink>(
-    alloc: Global,
-    book: &Book,
-    log: &ExplainStore,
-    needs: &Needs,
-    claim: &Claim,
-    writer: &mut Writer<'_, K>,
-) -> Result<(), CertStop>
-    requires { AreNeeds book.now log.now.log claim.now needs.now }
-    ensures { Wrote K.state writer.old writer.new (certificate_text book.now log.now.log claim.now) result }
-{
-    write_declarations(book, &needs.cited, claimed_var(claim), writer)?;
+    write_declarations(book, &needs.cited, claimed_var(&claim), &mut writer)?;
     let mut numbers = Vec::new(alloc);
-    write_steps(book, log, &needs.steps, &mut numbers, writer)?;
-    write_claim(book, claim, writer)?;
+    write_steps(book, log, &needs.steps, &mut numbers, &mut writer)?;
+    write_claim(book, &claim, &mut writer)?;
     writer.word(Fixed::End)
 }
 

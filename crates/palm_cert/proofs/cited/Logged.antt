@@ -89,6 +89,13 @@ declared_from initial active earlier (s ∷ rest) right r m = elim (member_cases
   | inr k ↦ declared_from initial active (earlier ++ s ∷ []) rest right.1 r k
 ]
 
+-- what was removed from the book's values was declared
+pub removed_has : (s : EngineState) (book : Contents) → IsValid s → s.initial ≡ initial_of book → (p : Pair) → Contains (log_pairs s.log) p → Has (initial_of book) p.var p.value
+removed_has s book valid initial p m =
+    let r = pair_removal s.log p m in
+    subst (λ (d : Domains). Has d p.var p.value) initial
+    (subst (λ (q : Pair). Has s.initial q.var q.value) r.2 (declared_from s.initial s.active [] s.log valid.founded r.0 r.1))
+
 -- domains of the book's variables
 pub as_long : (d : Domains) (book : Contents) → d ≡ initial_of book → length d ≡ length book.variables
 as_long d book e = ap (λ (f : Domains). length f) e ∙ length-map book.variables (λ (v : BookVar). v.values)

@@ -37,10 +37,10 @@ use Rattle.palm_events.specs.Scoped.{HasScopedReasons}
 use Rattle.palm_cert.proofs.cited.Declared.{are_values, name_text, named_read, variable_says}
 use Rattle.palm_cert.proofs.cited.Lengths.{are_step_numbers, numbers_few, over_few, over_member, pairs_over, within_book}
 use Rattle.palm_cert.proofs.cited.Links.{Apart, linked_apart, pair_logged, pair_removal}
-use Rattle.palm_cert.proofs.cited.Logged.{as_long, declared_from, owner_of}
+use Rattle.palm_cert.proofs.cited.Logged.{as_long, owner_of, removed_has}
 use Rattle.palm_cert.proofs.cited.Needed.{right_linked, steps_founded}
 use Rattle.palm_cert.proofs.cited.Reached.{values_same}
-use Rattle.palm_cert.proofs.cited.Saying.{conflict_claim_length, conflict_claim_says, step_length, step_says, value_claim_length, value_claim_says}
+use Rattle.palm_cert.proofs.cited.Saying.{conflict_claim_says, step_length, step_says, value_claim_says}
 
 -- ---- the first and the last line
 
@@ -106,10 +106,7 @@ module _ (book : Contents) (is : IsBook book) (steps : List Removal) (apart : Ap
 -- what an engine with the book's variables removed was declared
 pub pair_declared : (s : EngineState) (book : Contents) → IsValid s → s.initial ≡ initial_of book → (p : Pair) → Contains (log_pairs s.log) p → Contains (values_at book.variables p.var) p.value
 pair_declared s book valid initial p m =
-    let r = pair_removal s.log p m in
-    let has : Has s.initial p.var p.value = subst (λ (q : Pair). Has s.initial q.var q.value) r.2 (declared_from s.initial s.active [] s.log valid.founded r.0 r.1) in
-    let same : Has (initial_of book) p.var p.value = subst (λ (d : Domains). Has d p.var p.value) initial has in
-    subst (λ (vs : List ℤ). Contains vs p.value) (values_same book.variables p.var) same
+    subst (λ (vs : List ℤ). Contains vs p.value) (values_same book.variables p.var) (removed_has s book valid initial p m)
 
 module _ (s : EngineState) (valid : IsValid s) (pairs : List Pair) where
   pub step_logged : (r : Removal) → Contains (steps_of s.log pairs) r → Contains s.log r
@@ -161,14 +158,11 @@ module _ (s : EngineState) (book : Contents) (is : IsBook book) (valid : IsValid
   claim_readable : (claim : Claim) → CanClaim s claim → Says (spaced (claim_words book.variables claim)) (claim_statement book.variables claim)
   claim_readable (Gone pair) can =
       let has = pair_declared s book valid initial pair can in
-      let named = pair_name book is pair has in
-      let value = pair_value book is pair has in
-      value_claim_says book.variables pair named value (omega (arith, value_claim_length book.variables pair named value))
+      value_claim_says book.variables pair (pair_name book is pair has) (pair_value book is pair has)
   claim_readable (Conflict x) can =
       let exists = can.exists in
       let many : length (present s) ≡ length book.variables = length_without s.initial (log_pairs s.log) ∙ as_long s.initial book initial in
-      let named = name_text book.variables x is.variable_names (omega (arith, exists, many)) in
-      conflict_claim_says book.variables x named (omega (arith, conflict_claim_length book.variables x named))
+      conflict_claim_says book.variables x (name_text book.variables x is.variable_names (omega (arith, exists, many)))
 
   lines_readable : (claim : Claim) → CanClaim s claim → HasScopedReasons s → AreReadable book (steps_of s.log (claimed book claim)) claim
   lines_readable claim can scoped = record {
