@@ -28,7 +28,7 @@ pub fn is_used(book: &Book, marks: &[bool], claimed: Var, var: Var) -> bool
 }
 
 /// Whether the variable is in the scope of the constraint.
-#[tactic(auto, using(crate::proofs::Uses::terms_have, crate::proofs::Uses::scope_has))]
+#[tactic(auto, using(crate::proofs::Marks::terms_have, crate::proofs::Marks::scope_has))]
 fn is_over(con: &Con, var: Var) -> bool
     ensures { result ≡ is_over con.now var }
 {

@@ -164,11 +164,9 @@ module _ (log : List Removal) (places : List ℕ) (steps : AreSteps log places) 
   pub step_within : (place : ℕ) → Contains places place → place < length log
   step_within place m = let r = step_stands log steps.pairs places steps.linked steps.needed place m in slice_get_within log place r.0 r.1
 
-  pub number_found : (place k : ℕ) (p : Pair) → slice_get (log_pairs log) place ≡ Some p → Contains places place → 1 ≤ k → slice_get places (k - 1) ≡ Some place → IsNumberOf (removals_at log places) k p
-  number_found place k p at m positive there =
+  pub number_found : (place i : ℕ) (p : Pair) → slice_get (log_pairs log) place ≡ Some p → Contains places place → slice_get places i ≡ Some place → IsNumberOf (removals_at log places) (i + 1) p
+  number_found place i p at m there =
       let r = step_stands log steps.pairs places steps.linked steps.needed place m in
-      record {
-        positive = positive;
-        at = pair_at (removals_at log places) (k - 1) r.0 (nth_at log places (step_stands log steps.pairs places steps.linked steps.needed) (k - 1) place r.0 there r.1)
-            ∙ sym (pair_at log place r.0 r.1) ∙ at;
-      }
+      let back : i ≡ i + 1 - 1 = omega arith in
+      let same = pair_at (removals_at log places) i r.0 (nth_at log places (step_stands log steps.pairs places steps.linked steps.needed) i place r.0 there r.1) ∙ sym (pair_at log place r.0 r.1) ∙ at in
+      record { positive = omega arith; at = rw (← back) same }

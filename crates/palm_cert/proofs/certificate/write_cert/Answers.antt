@@ -46,7 +46,7 @@ returns-in_err-write_declarations-clause-text g c =
     let are = c.in_ok-needs.ensures in
     let steps = removals_at log needs.steps.items in
     let w = wrote_text (text_made book c.args.engine.now.state.log log c.args.claim needs are c.log-log.ensures needs.steps.items c.claimed_var.result refl c.claimed_var.ensures)
-        (wrote_front (proof_lines book steps c.args.claim) c.from_residual-in_err-write_declarations.ensures.1 (c.in_err-write_declarations.ensures steps (c.deref.ensures.value ∙ are.cited))) in
+    (wrote_front (proof_lines book steps c.args.claim) c.from_residual-in_err-write_declarations.ensures.1 (c.in_err-write_declarations.ensures steps (c.deref.ensures.value ∙ are.cited))) in
     search rules
 
 pub returns-in_err-write_steps-clause-text : goal.returns-in_err-write_steps-clause-text
@@ -56,8 +56,8 @@ returns-in_err-write_steps-clause-text g c =
     let needs = c.in_ok-needs.needs in
     let are = c.in_ok-needs.ensures in
     let w = wrote_text (text_made book c.args.engine.now.state.log log c.args.claim needs are c.log-log.ensures c.deref-2.result.now c.claimed_var.result c.deref-2.ensures.value c.claimed_var.ensures)
-        (wrote_then (c.in_ok-write_declarations.ensures (removals_at log needs.steps.items) (c.deref.ensures.value ∙ are.cited))
-        (wrote_front {T = Unit {0}} (fixed_text End) c.from_residual-in_err-write_steps.ensures.1 (wrote_front (claim_line book.variables c.args.claim) refl c.in_err-write_steps.ensures))) in
+    (wrote_then (c.in_ok-write_declarations.ensures (removals_at log needs.steps.items) (c.deref.ensures.value ∙ are.cited))
+    (wrote_front {T = Unit {0}} (fixed_text End) c.from_residual-in_err-write_steps.ensures.1 (wrote_front (claim_line book.variables c.args.claim) refl c.in_err-write_steps.ensures))) in
     search rules
 
 pub returns-in_err-write_claim-clause-text : goal.returns-in_err-write_claim-clause-text
@@ -66,8 +66,8 @@ returns-in_err-write_claim-clause-text g c =
     let needs = c.in_ok-needs.needs in
     let are = c.in_ok-needs.ensures in
     let w = wrote_text (text_made c.args.book.now c.args.engine.now.state.log log c.args.claim needs are c.log-log.ensures c.deref-2.result.now c.claimed_var.result c.deref-2.ensures.value c.claimed_var.ensures)
-        (wrote_then (c.in_ok-write_declarations.ensures (removals_at log needs.steps.items) (c.deref.ensures.value ∙ are.cited))
-        (wrote_within (fixed_text End) c.from_residual-in_err-write_claim.ensures.1 c.in_ok-write_steps.ensures c.in_err-write_claim.ensures)) in
+    (wrote_then (c.in_ok-write_declarations.ensures (removals_at log needs.steps.items) (c.deref.ensures.value ∙ are.cited))
+    (wrote_within (fixed_text End) c.from_residual-in_err-write_claim.ensures.1 c.in_ok-write_steps.ensures c.in_err-write_claim.ensures)) in
     search rules
 
 pub returns-clause-text : goal.returns-clause-text
@@ -76,7 +76,7 @@ returns-clause-text g c =
     let needs = c.in_ok-needs.needs in
     let are = c.in_ok-needs.ensures in
     let w = wrote_text (text_made c.args.book.now c.args.engine.now.state.log log c.args.claim needs are c.log-log.ensures c.deref-2.result.now c.claimed_var.result c.deref-2.ensures.value c.claimed_var.ensures)
-        (wrote_then (c.in_ok-write_declarations.ensures (removals_at log needs.steps.items) (c.deref.ensures.value ∙ are.cited)) (wrote_then (wrote_then c.in_ok-write_steps.ensures c.in_ok-write_claim.ensures) c.word.ensures)) in
+    (wrote_then (c.in_ok-write_declarations.ensures (removals_at log needs.steps.items) (c.deref.ensures.value ∙ are.cited)) (wrote_then (wrote_then c.in_ok-write_steps.ensures c.in_ok-write_claim.ensures) c.word.ensures)) in
     search rules
 
 pub returns-clause-accepted : goal.returns-clause-accepted

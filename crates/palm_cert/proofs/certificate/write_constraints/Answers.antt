@@ -1,6 +1,6 @@
 use Rattle.std.proofs.Common.{true, false}
 use Rattle.palm_cert.specs.Certificate.{added_line, is_cited}
-use Rattle.palm_cert.proofs.Uses.{mark_tells}
+use Rattle.palm_cert.proofs.Marks.{mark_tells}
 use Rattle.palm_cert.proofs.cited.Filtered.{wrote_failed, wrote_passed, wrote_stopped}
 use Rattle.palm_cert.proofs.certificate.write_constraints.Goals as goal
 use Rattle.palm_cert.proofs.certificate.write_constraints.Goals.{then-marks-place+in_ok-write_added, else-marks-place}

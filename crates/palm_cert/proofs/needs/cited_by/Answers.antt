@@ -2,7 +2,7 @@ use Rattle.std.proofs.Common.{◌∙◌, ℕ, List, false, replicate, take, slic
 use Rattle.std.proofs.lemmas.List.{get_or_default}
 use Rattle.palm_model.specs.Log.{Removal}
 use Rattle.palm_cert.specs.Needs.{cites_of, removals_at}
-use Rattle.palm_cert.proofs.Cites.{uncited}
+use Rattle.palm_cert.proofs.Marks.{uncited}
 use Rattle.palm_cert.proofs.cited.Logged.{by_at_place, by_of, some_removal, user_numbered}
 use Rattle.palm_cert.proofs.cited.Stepped.{removals_more}
 use Rattle.palm_cert.proofs.needs.cited_by.Goals as goal

@@ -4,7 +4,7 @@ use Rattle.std.proofs.lemmas.Bool.{false≢true, or_right}
 use Rattle.palm_book.specs.declared.book.BookCon.{BookCon}
 use Rattle.palm_model.specs.State.{is_over}
 use Rattle.palm_cert.specs.Certificate.{cited, is_cited}
-use Rattle.palm_cert.proofs.Uses.{mark_tells, none_more, some_passed}
+use Rattle.palm_cert.proofs.Marks.{mark_tells, none_more, some_passed}
 use Rattle.palm_cert.proofs.usage.is_used.Goals as goal
 use Rattle.palm_cert.proofs.usage.is_used.Goals.{else-marks-place-via-then-marks-place+else-is_over, else-marks-place-via-else-marks-place}
 
