@@ -53,6 +53,13 @@ pub record AreSteps (log : List Removal) (places : List ℕ) : Type 0 where
   pub linked : IsLinked log
   pub needed : AreNeeded log pairs places
 
+-- the place is that of one of the steps, in a log that is of the book
+pub record IsStepAt (book : Contents) (By : Cid → Type 0) (log : List Removal) (places : List ℕ) (place : ℕ) : Type 0 where
+  pub steps : AreSteps log places
+  pub logged : All (IsOfBook book By) log
+  pub within : place < length log
+  pub step : Contains places place
+
 -- the step with the number, counted from 1, proved the pair
 pub record IsNumberOf (steps : List Removal) (k : ℕ) (p : Pair) : Type 0 where
   pub positive : 1 ≤ k

@@ -1,9 +1,9 @@
 //! Writing a certificate, a line at a time, so that no whole text is held.
-ghost use Rattle.std.specs.Prelude.{◌≡◌, ◌<◌, List, [], ◌∷◌, length, flat_map, All, Contains, OnOk};
+ghost use Rattle.std.specs.Prelude.{◌≡◌, ◌<◌, List, [], ◌∷◌, length, flat_map, All, OnOk};
 ghost use Rattle.palm_book.specs.Book.{HasNumber, IsUser, active_of, initial_of, number_name};
 ghost use Rattle.palm_cert.specs.Accepted.{IsAccepted};
 ghost use Rattle.palm_cert.specs.Certificate.{added_line, certificate_text, cited, claim_line, claim_var, declarations, declared_line, step_line, step_words, used};
-ghost use Rattle.palm_cert.specs.Needs.{AreSteps, CanClaim, IsOfBook, cites_of, removals_at};
+ghost use Rattle.palm_cert.specs.Needs.{AreSteps, CanClaim, IsOfBook, IsStepAt, cites_of, removals_at};
 ghost use Rattle.palm_lang.specs.Reply.{ended};
 ghost use Rattle.palm_lang.specs.Writer.{Wrote};
 ghost use Rattle.palm_lang.specs.Writing.{Writes};
@@ -145,10 +145,7 @@ fn write_step<K: Sink>(
     numbers: &mut Vec<usize>,
     writer: &mut Writer<'_, K>,
 ) -> Result<(), CertStop>
-    requires steps { AreSteps log.now.log steps.now }
-    requires logged { All (IsOfBook book.now (IsUser book.now)) log.now.log }
-    requires place { place < length log.now.log }
-    requires step { Contains steps.now place }
+    requires { IsStepAt book.now (IsUser book.now) log.now.log steps.now place }
     ensures { Wrote K.state writer.old writer.new (flat_map (step_line book.now (removals_at log.now.log steps.now)) (removals_at log.now.log (place ∷ []))) result }
 {
     collect_numbers(log, steps, place, numbers)?;

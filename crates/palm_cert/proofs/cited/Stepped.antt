@@ -8,13 +8,15 @@ use Rattle.std.proofs.lemmas.Grind.{flat_map-append}
 use Rattle.std.proofs.lemmas.List.{get_or_default, take_more}
 use Rattle.std.proofs.lemmas.List.Sorted.{searched}
 use Rattle.std.proofs.lemmas.Option.{none-some, same_Some, slice_get-get_or, slice_get_within}
+use Rattle.palm_base.specs.declared.terms.Cid.{Cid}
 use Rattle.palm_base.specs.declared.terms.Pair.{Pair}
 use Rattle.palm_base.proofs.cited.Members.{all_members, flat_map_member, member_flat_map, member_here, member_nil, member_same, member_single, member_there}
+use Rattle.palm_book.specs.Book.{Contents}
 use Rattle.palm_model.specs.Log.{Removal, log_pairs}
 use Rattle.palm_explain.specs.Explanations.{IsLinked}
 use Rattle.palm_explain.specs.Needed.{AreNeeded, Climbs}
 use Rattle.palm_cert.specs.Certificate.{asked, is_asked, steps_of}
-use Rattle.palm_cert.specs.Needs.{AreSteps, IsNumberOf, removals_at}
+use Rattle.palm_cert.specs.Needs.{AreSteps, IsNumberOf, IsOfBook, IsStepAt, removals_at}
 use Rattle.palm_cert.proofs.cited.Links.{Apart, apart_passed, asked_member, linked_apart, member_asked, pair_removal, reasons_steps, same_place}
 use Rattle.palm_cert.proofs.cited.Needed.{asked_needed, needed_asked}
 use Rattle.palm_cert.proofs.cited.Before.{before_from}
@@ -161,8 +163,12 @@ module _ (log : List Removal) (places : List ℕ) (steps : AreSteps log places) 
       let q = at_member log places r.0 r.1 in
       member_same places q.0 place (same_place (log_pairs log) (linked_apart log steps.linked) q.0 place p (pair_at log q.0 r.0 q.2 ∙ ap Some r.2) at) q.1
 
-  pub step_within : (place : ℕ) → Contains places place → place < length log
-  step_within place m = let r = step_stands log steps.pairs places steps.linked steps.needed place m in slice_get_within log place r.0 r.1
+  -- at each index stands the place of a step
+  pub step_placed : (book : Contents) (By : Cid → Type 0) → All (IsOfBook book By) log → (i : ℕ) → i < length places → IsStepAt book By log places (get_or places i 0)
+  step_placed book By logged i lt =
+      let m : Contains places (get_or places i 0) = (i, lt, get_or_default places i (get_or places i 0) 0 lt) in
+      let r = step_stands log steps.pairs places steps.linked steps.needed (get_or places i 0) m in
+      record { steps = steps; logged = logged; within = slice_get_within log (get_or places i 0) r.0 r.1; step = m }
 
   pub number_found : (place i : ℕ) (p : Pair) → slice_get (log_pairs log) place ≡ Some p → Contains places place → slice_get places i ≡ Some place → IsNumberOf (removals_at log places) (i + 1) p
   number_found place i p at m there =

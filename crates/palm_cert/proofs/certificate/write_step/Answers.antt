@@ -11,15 +11,15 @@ use Rattle.palm_cert.proofs.certificate.write_step.Goals as goal
 
 pub number_of-by-requires : goal.number_of-by-requires
 number_of-by-requires g c =
-    user_numbered c.args.book.now c.by_at.result (by_at_place c.args.book.now _ c.args.log.now.log c.requires.logged c.args.place c.requires.place c.by_at.result c.by_at.ensures)
+    user_numbered c.args.book.now c.by_at.result (by_at_place c.args.book.now _ c.args.log.now.log c.requires.logged c.args.place c.requires.within c.by_at.result c.by_at.ensures)
 
 pub write_removal-requires-clause-variable : goal.write_removal-requires-clause-variable
 write_removal-requires-clause-variable g c =
-    variable_at c.args.book.now _ c.args.log.now.log c.requires.logged c.args.place c.requires.place c.pair_at.result c.pair_at.ensures
+    variable_at c.args.book.now _ c.args.log.now.log c.requires.logged c.args.place c.requires.within c.pair_at.result c.pair_at.ensures
 
 pub write_removal-requires-clause-constraint : goal.write_removal-requires-clause-constraint
 write_removal-requires-clause-constraint g c =
-    by_at_place c.args.book.now _ c.args.log.now.log c.requires.logged c.args.place c.requires.place _ (c.by_at.ensures ∙ ap Some c.number_of-by.ensures)
+    by_at_place c.args.book.now _ c.args.log.now.log c.requires.logged c.args.place c.requires.within _ (c.by_at.ensures ∙ ap Some c.number_of-by.ensures)
 
 pub returns : goal.returns
 returns g c =
@@ -29,5 +29,5 @@ returns g c =
     let line = λ (p : Pair) (by : List ℕ) (ks : List ℕ). ended (spaced (step_words book.variables p by ks)) in
     wrote_text
     (ap (λ (ks : List ℕ). line c.pair_at.result (number_name book.constraints c.number_of-by.result) ks) (c.deref.ensures.value ∙ c.in_ok-collect_numbers.ensures)
-    ∙ text_read (λ p by reasons. line p (user_name book.constraints by) (numbers_of steps reasons)) log c.args.place c.pair_at.result _ c.requires.place c.pair_at.ensures (c.by_at.ensures ∙ ap Some c.number_of-by.ensures))
+    ∙ text_read (λ p by reasons. line p (user_name book.constraints by) (numbers_of steps reasons)) log c.args.place c.pair_at.result _ c.requires.within c.pair_at.ensures (c.by_at.ensures ∙ ap Some c.number_of-by.ensures))
     c.write_removal.ensures
