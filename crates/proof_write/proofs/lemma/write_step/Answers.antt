@@ -23,38 +23,38 @@ line_read book undone steps log place pair by = text_read (λ p c reasons. ended
 
 pub write_assumed-requires : goal.write_assumed-requires
 write_assumed-requires g c =
-    variable_at c.args.book.now _ c.args.log.now.log c.requires.logged c.args.place c.requires.place c.pair_at-pair.result c.pair_at-pair.ensures
+    variable_at c.args.book.now _ c.args.log.now.log c.requires.logged c.args.place c.requires.within c.pair_at-pair.result c.pair_at-pair.ensures
 
 pub write_given-requires : goal.write_given-requires
 write_given-requires g c =
-    variable_at c.args.book.now _ c.args.log.now.log c.requires.logged c.args.place c.requires.place c.pair_at-pair.result c.pair_at-pair.ensures
+    variable_at c.args.book.now _ c.args.log.now.log c.requires.logged c.args.place c.requires.within c.pair_at-pair.result c.pair_at-pair.ensures
 
 pub write_removal-requires-clause-variable : goal.write_removal-requires-clause-variable
 write_removal-requires-clause-variable g c =
-    variable_at c.args.book.now _ c.args.log.now.log c.requires.logged c.args.place c.requires.place c.pair_at-pair.result c.pair_at-pair.ensures
+    variable_at c.args.book.now _ c.args.log.now.log c.requires.logged c.args.place c.requires.within c.pair_at-pair.result c.pair_at-pair.ensures
 
 pub write_removal-requires-clause-constraint : goal.write_removal-requires-clause-constraint
 write_removal-requires-clause-constraint g c =
-    by_at_place c.args.book.now _ c.args.log.now.log c.requires.logged c.args.place c.requires.place (User c.in-User.by) c.in-User.ensures
+    by_at_place c.args.book.now _ c.args.log.now.log c.requires.logged c.args.place c.requires.within (User c.in-User.by) c.in-User.ensures
 
 pub returns-in_err-collect_numbers-in-User : goal.returns-in_err-collect_numbers-in-User
 returns-in_err-collect_numbers-in-User g c undone are = wrote_nothing _ _ _ refl c.from_residual.ensures.1
 
 pub returns-in-Decide : goal.returns-in-Decide
 returns-in-Decide g c undone are =
-    let line = line_read c.args.book.now undone (removals_at c.args.log.now.log c.args.steps.now) c.args.log.now.log c.args.place c.pair_at-pair.result (Decide c.in-Decide.field-0) c.requires.place c.pair_at-pair.ensures c.in-Decide.ensures in
+    let line = line_read c.args.book.now undone (removals_at c.args.log.now.log c.args.steps.now) c.args.log.now.log c.args.place c.pair_at-pair.result (Decide c.in-Decide.field-0) c.requires.within c.pair_at-pair.ensures c.in-Decide.ensures in
     wrote_text line c.write_assumed.ensures
 
 pub returns-in-Not : goal.returns-in-Not
 returns-in-Not g c undone are =
     let book = c.args.book.now in
-    let line = line_read book undone (removals_at c.args.log.now.log c.args.steps.now) c.args.log.now.log c.args.place c.pair_at-pair.result (Not c.in-Not.negated) c.requires.place c.pair_at-pair.ensures c.in-Not.ensures in
+    let line = line_read book undone (removals_at c.args.log.now.log c.args.steps.now) c.args.log.now.log c.args.place c.pair_at-pair.result (Not c.in-Not.negated) c.requires.within c.pair_at-pair.ensures c.in-Not.ensures in
     wrote_text (ap (λ (n : ℕ). given_line book.variables c.pair_at-pair.result n) (c.number_of.ensures ∙ are.each c.in-Not.negated) ∙ line) c.write_given.ensures
 
 pub returns-in_ok-collect_numbers-in-User : goal.returns-in_ok-collect_numbers-in-User
 returns-in_ok-collect_numbers-in-User g c undone are =
     let book = c.args.book.now in
-    let line = line_read book undone (removals_at c.args.log.now.log c.args.steps.now) c.args.log.now.log c.args.place c.pair_at-pair.result (User c.in-User.by) c.requires.place c.pair_at-pair.ensures c.in-User.ensures in
+    let line = line_read book undone (removals_at c.args.log.now.log c.args.steps.now) c.args.log.now.log c.args.place c.pair_at-pair.result (User c.in-User.by) c.requires.within c.pair_at-pair.ensures c.in-User.ensures in
     wrote_text
     (ap (λ (ks : List ℕ). ended (spaced (by_words book.variables c.pair_at-pair.result (number_name book.constraints c.in-User.by) ks))) (c.deref.ensures.value ∙ c.in_ok-collect_numbers-in-User.ensures) ∙ line)
     c.write_removal.ensures
