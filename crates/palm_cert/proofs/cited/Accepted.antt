@@ -16,7 +16,7 @@ use Rattle.palm_book.proofs.cited.Any.{any_member}
 use Rattle.palm_claim.specs.Draft.{blank}
 use Rattle.palm_claim.specs.Step.{pairs_at}
 use Rattle.palm_claim.specs.Claim.{IsOver}
-use Rattle.palm_claim.specs.Verdict.{certificates, ending}
+use Rattle.palm_claim.specs.Verdict.{certificates}
 use Rattle.palm_claim.specs.declared.statement.Stage.TheVariants.{Closed}
 use Rattle.palm_claim.specs.declared.verdict.Claim.{Claim}
 use Rattle.palm_claim.specs.declared.verdict.Claim.TheVariants.{Conflict, Gone}
@@ -27,7 +27,7 @@ use Rattle.palm_base.proofs.cited.CidOrder.{same_cid_itself}
 use Rattle.palm_lang.specs.Reply.{fixed_text}
 use Rattle.palm_lang.specs.declared.reply.Fixed.TheVariants.{End}
 use Rattle.palm_model.specs.Constraint.{IsWellFormed, scope}
-use Rattle.palm_model.specs.Domains.{Domains, Has, without}
+use Rattle.palm_model.specs.Domains.{without}
 use Rattle.palm_base.specs.Order.{same_cid}
 use Rattle.palm_model.specs.Log.{Removal, log_pairs}
 use Rattle.palm_model.specs.State.{EngineState, IsValid, is_over}
@@ -40,7 +40,6 @@ use Rattle.palm_cert.specs.SameClaim.{IsSameClaim}
 use Rattle.palm_cert.proofs.cited.Before.{before_from, filter_shorter, range_has, range_rises, range_within}
 use Rattle.palm_cert.proofs.Declaring.{AreDeclared, Lists, declarations_read, list_open}
 use Rattle.palm_cert.proofs.cited.Earlier.{owner_named, step_declared, step_owner, steps_numbered}
-use Rattle.palm_cert.proofs.cited.Links.{pair_removal}
 use Rattle.palm_cert.proofs.cited.Logged.{claim_declared, removed_has}
 use Rattle.palm_cert.proofs.Proving.{IsClaimed, IsStep, claim_reads, other_claim, own, proved_by, proving, steps_read}
 use Rattle.palm_cert.proofs.cited.Reached.{claim_reached}

@@ -1,8 +1,8 @@
 -- A step among the others: the numbers of its reasons are those of earlier steps, and it is right behind these.
 use Rattle.std.proofs.Common.{◌≡◌, ℕ, ◌+◌, ◌-◌, ◌≤◌, zero, suc, Some, List, [], ◌∷◌, ◌++◌, length, All, Contains, refl, sym, ap, ◌∙◌, subst, append_assoc, append-nil, arith}
 use Rattle.std.specs.Prelude.{IfSome, slice_get}
-use Rattle.std.proofs.lemmas.List.{length-map, map-append}
-use Rattle.std.proofs.lemmas.Option.{get_or_from_slice_get, none-some, slice_get_within}
+use Rattle.std.proofs.lemmas.List.{get_or_append_left, length-append, length-map, map-append}
+use Rattle.std.proofs.lemmas.Option.{get_or_from_slice_get, slice_get-get_or, slice_get_within}
 use Rattle.palm_base.specs.declared.terms.Pair.{Pair}
 use Rattle.palm_base.specs.declared.terms.Cid.{Cid}
 use Rattle.palm_base.specs.declared.terms.Cid.TheVariants.{User}
@@ -38,11 +38,6 @@ link_between front [] r later linked = subst (λ (l : List Removal). IsLink l r)
 link_between front (s ∷ earlier) r later linked =
     subst (λ (l : List Removal). IsLink l r) (append_assoc front (s ∷ []) earlier) (link_between (front ++ s ∷ []) earlier r later linked.1)
 
-get_left : (ps qs : List Pair) (j : ℕ) (p : Pair) → slice_get ps j ≡ Some p → slice_get (ps ++ qs) j ≡ Some p
-get_left [] qs j p at = absurd (none-some p at)
-get_left (q ∷ ps) qs zero p at = at
-get_left (q ∷ ps) qs (suc j) p at = get_left ps qs j p at
-
 module _ (earlier : List Removal) (r : Removal) (later : List Removal) (linked : IsLinked (earlier ++ r ∷ later)) where
   -- the numbers of its reasons
   abbrev reason_numbers : List ℕ
@@ -51,8 +46,11 @@ module _ (earlier : List Removal) (r : Removal) (later : List Removal) (linked :
   -- a reason has a place among the earlier removals, which is its place among all
   place_of : (p : Pair) → Contains r.reasons p → (j : ℕ) × (slice_get (log_pairs earlier) j ≡ Some p) × (slice_get (log_pairs (earlier ++ r ∷ later)) j ≡ Some p)
   place_of p m =
-      let q = member_place (log_pairs earlier) p ((link_between [] earlier r later linked).reasons p m) in
-      (q.0, q.1, subst (λ (ps : List Pair). slice_get ps q.0 ≡ Some p) (sym (map-append (λ (s : Removal). s.pair) earlier (r ∷ later))) (get_left (log_pairs earlier) (log_pairs (r ∷ later)) q.0 p q.1))
+      let q = (link_between [] earlier r later linked).reasons p m in
+      let both = log_pairs earlier ++ log_pairs (r ∷ later) in
+      let whole : slice_get both q.0 ≡ Some p =
+          slice_get-get_or both q.0 p (omega (arith, q.1, length-append (log_pairs earlier) (log_pairs (r ∷ later)))) ∙ ap Some (get_or_append_left (log_pairs earlier) (log_pairs (r ∷ later)) p q.0 q.1 ∙ q.2) in
+      (q.0, slice_get-get_or (log_pairs earlier) q.0 p q.1 ∙ ap Some q.2, rw (map-append (λ (s : Removal). s.pair) earlier (r ∷ later)) whole)
 
   -- the number of a reason is below its own
   pub number_earlier : (k : ℕ) → Contains reason_numbers k → (1 ≤ k) × (k ≤ length earlier)

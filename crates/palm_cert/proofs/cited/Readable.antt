@@ -1,15 +1,11 @@
 -- Each line of a certificate says what was written.
-use Rattle.std.proofs.Common.{◌≡◌, ℕ, ◌≤◌, Bool, true, false, cond, List, [], ◌∷◌, ℤ, length, codes, All, Any, Contains, inl, inr, refl, sym, ap, ◌∙◌, subst, arith, nat_eq}
-use Rattle.std.proofs.lemmas.Bool.{false≢true, eq-eqb}
-use Rattle.std.proofs.lemmas.List.Elements.{All-contains, All-head, All-tail}
+use Rattle.std.proofs.Common.{◌≡◌, ℕ, ◌≤◌, List, [], ◌∷◌, ℤ, length, codes, All, Contains, refl, sym, ap, ◌∙◌, subst, arith}
+use Rattle.std.proofs.lemmas.List.Elements.{All-contains}
 use Rattle.std.proofs.lemmas.List.Sums.{AllPass-from_list_all}
 use Rattle.palm_base.specs.declared.terms.Pair.{Pair}
-use Rattle.palm_base.specs.declared.terms.Cid.{Cid}
-use Rattle.palm_base.specs.declared.terms.Cid.TheVariants.{User}
 use Rattle.palm_base.proofs.cited.Members.{filter_member, member_same}
-use Rattle.palm_book.specs.Book.{Contents, IsBook, active_of, initial_of, name_of, number_name, user_name, values_at}
+use Rattle.palm_book.specs.Book.{Contents, IsBook, active_of, initial_of, name_of, user_name, values_at}
 use Rattle.palm_book.specs.declared.book.BookCon.{BookCon}
-use Rattle.palm_book.proofs.cited.Any.{any_cases, any_member, any_none}
 use Rattle.palm_book.proofs.cited.WellFormed.{named_near}
 use Rattle.palm_claim.specs.Phrases.{header_of}
 use Rattle.palm_claim.specs.Statement.{IsStepNumber, Says}
@@ -18,7 +14,6 @@ use Rattle.palm_claim.specs.declared.statement.Statement.TheVariants.{Phrase}
 use Rattle.palm_claim.specs.declared.verdict.Claim.{Claim}
 use Rattle.palm_claim.specs.declared.verdict.Claim.TheVariants.{Gone, Conflict}
 use Rattle.palm_model.specs.Constraint.{IsWellFormed, scope}
-use Rattle.palm_model.specs.Domains.{Domains, Has}
 use Rattle.palm_model.specs.Limits.{IsValue}
 use Rattle.palm_model.specs.Log.{Active, Removal, log_pairs}
 use Rattle.palm_model.specs.State.{EngineState, IsValid, present}
@@ -35,6 +30,7 @@ use Rattle.palm_cert.specs.Needs.{CanClaim}
 use Rattle.palm_cert.specs.Readable.{AreReadable, claim_statement}
 use Rattle.palm_events.specs.Scoped.{HasScopedReasons}
 use Rattle.palm_cert.proofs.cited.Declared.{are_values, name_text, named_read, variable_says}
+use Rattle.palm_cert.proofs.cited.Earlier.{user_named}
 use Rattle.palm_cert.proofs.cited.Lengths.{are_step_numbers, numbers_few, over_few, over_member, pairs_over, within_book}
 use Rattle.palm_cert.proofs.cited.Links.{Apart, linked_apart, pair_logged, pair_removal}
 use Rattle.palm_cert.proofs.cited.Logged.{as_long, owner_of, removed_has}
@@ -55,21 +51,6 @@ end_says : Says (codes "end") (Phrase End)
 end_says =
     let words = words_keyword (codes "end") refl words_none in
     (record { short = omega arith; says = refl; plain = words_plain (codes "end" ∷ []) (Keyword (codes "end") ∷ []) words }, words_spell (codes "end" ∷ []) (Keyword (codes "end") ∷ []) words, tt)
-
--- ---- the names of constraints
-
-name_cond : (b : Bool) (n : ℕ) (c : BookCon) (cs : List BookCon) → nat_eq c.number n ≡ b → IsNameText c.name → Any (λ d. d.number ≡ n) (c ∷ cs) → (Any (λ d. d.number ≡ n) cs → IsNameText (number_name cs n)) → IsNameText (cond b c.name (number_name cs n))
-name_cond true n c cs e text some later = text
-name_cond false n c cs e text some later = elim (any_cases (λ (d : BookCon). d.number ≡ n) c cs some) [
-  | inl same ↦ absurd (false≢true (sym e ∙ eq-eqb c.number n same))
-  | inr more ↦ later more
-]
-
-number_text : (cs : List BookCon) (n : ℕ) → All (λ c. IsNameText c.name) cs → Any (λ c. c.number ≡ n) cs → IsNameText (number_name cs n)
-number_text [] n names some = absurd (any_none (λ (c : BookCon). c.number ≡ n) some)
-number_text (c ∷ cs) n names some =
-    name_cond (nat_eq c.number n) n c cs refl (All-head (λ (d : BookCon). IsNameText d.name) c cs names) some
-    (number_text cs n (All-tail (λ (d : BookCon). IsNameText d.name) c cs names))
 
 -- ---- steps over the variables of a book
 
@@ -136,9 +117,7 @@ module _ (s : EngineState) (book : Contents) (is : IsBook book) (valid : IsValid
     by_name r m =
         let own = scoped r (step_logged s valid pairs r m) in
         let c = owner_of book own.owner (subst (λ (list : List Active). Contains list own.owner) active own.posted) in
-        let by : User c.0.number ≡ r.by = ap (λ (a : Active). a.cid) c.2 ∙ own.named in
-        subst (λ (cid : Cid). IsNameText (user_name book.constraints cid)) by
-        (number_text book.constraints c.0.number is.constraint_names (any_member (λ (d : BookCon). d.number ≡ c.0.number) book.constraints c.0 c.1 refl))
+        subst IsNameText (user_named book is c.0 c.1 r.by (ap (λ (a : Active). a.cid) c.2 ∙ own.named)) (constraint_text c.0 c.1)
 
     step_readable : (r : Removal) → Contains (steps_of s.log pairs) r → Says (spaced (step_words book.variables r.pair (user_name book.constraints r.by) (numbers_of (steps_of s.log pairs) r.reasons)))
         (Phrase (Step (name_of book.variables r.pair.var) r.pair.value (user_name book.constraints r.by) (numbers_of (steps_of s.log pairs) r.reasons)))
