@@ -1,5 +1,5 @@
 -- A step among the others: the numbers of its reasons are those of earlier steps, and it is right behind these.
-use Rattle.std.proofs.Common.{◌≡◌, ℕ, ◌+◌, ◌-◌, ◌≤◌, zero, suc, Some, List, [], ◌∷◌, ◌++◌, length, All, Contains, refl, sym, ap, ◌∙◌, subst, append_assoc, append-nil, arith}
+use Rattle.std.proofs.Common.{◌≡◌, ℕ, ◌+◌, ◌-◌, ◌≤◌, Some, List, [], ◌∷◌, ◌++◌, length, All, Contains, refl, sym, ap, ◌∙◌, subst, append_assoc, append-nil, arith}
 use Rattle.std.specs.Prelude.{IfSome, slice_get}
 use Rattle.std.proofs.lemmas.List.{get_or_append_left, length-append, length-map, map-append}
 use Rattle.std.proofs.lemmas.Option.{get_or_from_slice_get, slice_get-get_or, slice_get_within}
@@ -49,7 +49,7 @@ module _ (earlier : List Removal) (r : Removal) (later : List Removal) (linked :
       let q = (link_between [] earlier r later linked).reasons p m in
       let both = log_pairs earlier ++ log_pairs (r ∷ later) in
       let whole : slice_get both q.0 ≡ Some p =
-          slice_get-get_or both q.0 p (omega (arith, q.1, length-append (log_pairs earlier) (log_pairs (r ∷ later)))) ∙ ap Some (get_or_append_left (log_pairs earlier) (log_pairs (r ∷ later)) p q.0 q.1 ∙ q.2) in
+      slice_get-get_or both q.0 p (omega (arith, q.1, length-append (log_pairs earlier) (log_pairs (r ∷ later)))) ∙ ap Some (get_or_append_left (log_pairs earlier) (log_pairs (r ∷ later)) p q.0 q.1 ∙ q.2) in
       (q.0, slice_get-get_or (log_pairs earlier) q.0 p q.1 ∙ ap Some q.2, rw (map-append (λ (s : Removal). s.pair) earlier (r ∷ later)) whole)
 
   -- the number of a reason is below its own
