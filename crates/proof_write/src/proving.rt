@@ -129,8 +129,9 @@ fn run<F: Filter, G: Guide, O: Order, K: Sink, L: Ledger>(
         (OrderFollows O.answers O.hears O.state) (OrderAnswers O.answers O.state)
         machine.old.guide.now machine.new.guide.now machine.old.order.now machine.new.order.now
         budget machine.old.engine.now.state machine.new.search.now.journal machine.new.engine.now.state) }
-    ensures stops { Stops book.now (is_some machine.old.guide.now) (is_some machine.old.order.now) budget
-        machine.old.engine.now.state machine.new.search.now.journal (K.state out.old) (K.state out.new) result }
+    ensures stops { Stops book.now (is_some machine.old.guide.now) (is_some machine.old.order.now)
+        budget machine.old.engine.now.state machine.new.search.now.journal
+        (K.state out.old) (K.state out.new) result }
     ensures ran { HasRunOn machine.old machine.new }
     ensures scoped { HasScopedReasons machine.old.engine.now.state }
 {
