@@ -99,7 +99,8 @@ fn write_constraints<K: Sink>(
 {
     for place in 0..book.constraints() {
         let entry = book.constraint(place);
-        if marks[place] {
+        let is_cited = marks[place];
+        if is_cited {
             write_added(book, entry, writer)?;
         }
     }
