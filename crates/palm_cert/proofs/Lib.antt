@@ -1,9 +1,7 @@
 pub mod Built
 pub mod cited
-pub mod Cites
 pub mod Declaring
-pub mod Made
+pub mod Marks
 pub mod Moving
 pub mod Proving
 pub mod Renumbering
-pub mod Uses

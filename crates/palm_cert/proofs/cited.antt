@@ -3,10 +3,10 @@ pub mod Accepted
 pub mod Before
 pub mod Declared
 pub mod Earlier
+pub mod Filtered
 pub mod Lengths
 pub mod Links
 pub mod Logged
-pub mod Marked
 pub mod Needed
 pub mod Numbers
 pub mod Reached

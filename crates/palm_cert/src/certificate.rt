@@ -1,18 +1,18 @@
 //! Writing a certificate, a line at a time, so that no whole text is held.
-ghost use Rattle.std.specs.Prelude.{◌≡◌, ◌<◌, [], ◌∷◌, length, flat_map, All, Contains, OnOk};
-ghost use Rattle.palm_book.specs.Book.{HasNumber, active_of, initial_of, number_name};
+ghost use Rattle.std.specs.Prelude.{◌≡◌, ◌<◌, List, [], ◌∷◌, length, flat_map, All, OnOk};
+ghost use Rattle.palm_book.specs.Book.{HasNumber, IsUser, active_of, initial_of, number_name};
 ghost use Rattle.palm_cert.specs.Accepted.{IsAccepted};
-ghost use Rattle.palm_cert.specs.Certificate.{added_line, certificate_text, claim_line, claim_var, declarations, declared_line, step_line, step_words, used};
-ghost use Rattle.palm_cert.specs.Needs.{AreNeeds, AreSteps, CanClaim, IsOfBook, marked, removals_at};
-ghost use Rattle.palm_explain.specs.Explanations.{IsLinked};
+ghost use Rattle.palm_cert.specs.Certificate.{added_line, certificate_text, cited, claim_line, claim_var, declarations, declared_line, step_line, step_words, used};
+ghost use Rattle.palm_cert.specs.Needs.{AreSteps, CanClaim, IsOfBook, IsStepAt, cites_of, removals_at};
 ghost use Rattle.palm_lang.specs.Reply.{ended};
 ghost use Rattle.palm_lang.specs.Writer.{Wrote};
 ghost use Rattle.palm_lang.specs.Writing.{Writes};
 ghost use Rattle.palm_model.specs.Constraint.{scope};
+ghost use Rattle.palm_model.specs.Log.{Removal};
 ghost use Rattle.palm_read.specs.Words.{spaced};
 
 use crate::lines::{put_added, put_claim, put_step};
-use crate::needs::{Needs, claimed_var, collect_numbers, needs_of, number_of};
+use crate::needs::{claimed_var, collect_numbers, needs_of, number_of};
 use crate::usage::is_used;
 use palm_base::{NoMemory, Pair, Sink, Var};
 use palm_engine::Engine;
@@ -45,58 +45,42 @@ pub fn write_cert<F: Filter, K: Sink>(
     let needs = needs_of(alloc, book, log, &claim)?;
     let mut buffer = Vec::new(alloc);
     let mut writer = Writer::new(out, &mut buffer);
-    write_lines(alloc, book, log, &needs, &claim, &mut writer)
-}
-
-/// Writes the lines of a certificate of the claim, by what it needs.
-fn write_lines<K: Sink>(
-    alloc: Global,
-    book: &Book,
-    log: &ExplainStore,
-    needs: &Needs,
-    claim: &Claim,
-    writer: &mut Writer<'_, K>,
-) -> Result<(), CertStop>
-    requires linked { IsLinked log.now.log }
-    requires logged { All (IsOfBook book.now) log.now.log }
-    requires variable { claim_var claim.now < length book.now.variables }
-    requires needs { AreNeeds book.now log.now.log claim.now needs.now }
-    ensures { Wrote K.state writer.old writer.new (certificate_text book.now log.now.log claim.now) result }
-{
-    write_declarations(book, &needs.cited, claimed_var(claim), writer)?;
+    write_declarations(book, &needs.cited, claimed_var(&claim), &mut writer)?;
     let mut numbers = Vec::new(alloc);
-    write_steps(book, log, &needs.steps, &mut numbers, writer)?;
-    write_claim(book, claim, writer)?;
+    write_steps(book, log, &needs.steps, &mut numbers, &mut writer)?;
+    write_claim(book, &claim, &mut writer)?;
     writer.word(Fixed::End)
 }
 
 /// Writes the header, the variables and the constraints.
 fn write_declarations<K: Sink>(
     book: &Book,
-    cited: &[bool],
+    marks: &[bool],
     claimed: Var,
     writer: &mut Writer<'_, K>,
 ) -> Result<(), CertStop>
-    requires { length cited.now ≡ length book.now.constraints }
-    ensures { Wrote K.state writer.old writer.new (declarations book.now (marked cited.now book.now.constraints) claimed) result }
+    requires { length marks.now ≡ length book.now.constraints }
+    ensures { (rs : List Removal) → marks.now ≡ cites_of book.now rs
+        → Wrote K.state writer.old writer.new (declarations book.now (cited rs book.now) claimed) result }
 {
     writer.text(b"palm-cert 1\n")?;
-    write_variables(book, cited, claimed, writer)?;
-    write_constraints(book, cited, writer)
+    write_variables(book, marks, claimed, writer)?;
+    write_constraints(book, marks, writer)
 }
 
 /// Writes the variables that are used.
 fn write_variables<K: Sink>(
     book: &Book,
-    cited: &[bool],
+    marks: &[bool],
     claimed: Var,
     writer: &mut Writer<'_, K>,
 ) -> Result<(), CertStop>
-    requires { length cited.now ≡ length book.now.constraints }
-    ensures { Wrote K.state writer.old writer.new (flat_map (declared_line book.now.variables) (used (marked cited.now book.now.constraints) claimed book.now)) result }
+    requires { length marks.now ≡ length book.now.constraints }
+    ensures { (rs : List Removal) → marks.now ≡ cites_of book.now rs
+        → Wrote K.state writer.old writer.new (flat_map (declared_line book.now.variables) (used (cited rs book.now) claimed book.now)) result }
 {
     for index in 0..book.variables() {
-        if is_used(book, cited, claimed, Var(index)) {
+        if is_used(book, marks, claimed, Var(index)) {
             writer.variable(book, Var(index))?;
         }
     }
@@ -106,16 +90,18 @@ fn write_variables<K: Sink>(
 /// Writes the constraints that are marked.
 fn write_constraints<K: Sink>(
     book: &Book,
-    cited: &[bool],
+    marks: &[bool],
     writer: &mut Writer<'_, K>,
 ) -> Result<(), CertStop>
-    requires { length cited.now ≡ length book.now.constraints }
-    ensures { Wrote K.state writer.old writer.new (flat_map (added_line book.now.variables) (marked cited.now book.now.constraints)) result }
+    requires { length marks.now ≡ length book.now.constraints }
+    ensures { (rs : List Removal) → marks.now ≡ cites_of book.now rs
+        → Wrote K.state writer.old writer.new (flat_map (added_line book.now.variables) (cited rs book.now)) result }
 {
     for place in 0..book.constraints() {
-        let is_cited = cited[place];
+        let entry = book.constraint(place);
+        let is_cited = marks[place];
         if is_cited {
-            write_added(book, book.constraint(place), writer)?;
+            write_added(book, entry, writer)?;
         }
     }
     Ok(())
@@ -142,7 +128,7 @@ fn write_steps<K: Sink>(
     writer: &mut Writer<'_, K>,
 ) -> Result<(), CertStop>
     requires steps { AreSteps log.now.log steps.now }
-    requires logged { All (IsOfBook book.now) log.now.log }
+    requires logged { All (IsOfBook book.now (IsUser book.now)) log.now.log }
     ensures { Wrote K.state writer.old writer.new (flat_map (step_line book.now (removals_at log.now.log steps.now)) (removals_at log.now.log steps.now)) result }
 {
     for place in steps {
@@ -160,9 +146,7 @@ fn write_step<K: Sink>(
     numbers: &mut Vec<usize>,
     writer: &mut Writer<'_, K>,
 ) -> Result<(), CertStop>
-    requires steps { AreSteps log.now.log steps.now }
-    requires logged { All (IsOfBook book.now) log.now.log }
-    requires step { Contains steps.now place }
+    requires { IsStepAt book.now (IsUser book.now) log.now.log steps.now place }
     ensures { Wrote K.state writer.old writer.new (flat_map (step_line book.now (removals_at log.now.log steps.now)) (removals_at log.now.log (place ∷ []))) result }
 {
     collect_numbers(log, steps, place, numbers)?;

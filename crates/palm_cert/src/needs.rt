@@ -1,9 +1,10 @@
 //! Which removals of a log a claim needs, which numbers they have as steps, and which constraints made them.
-ghost use Rattle.std.specs.Prelude.{◌≡◌, ◌-◌, ◌<◌, ◌≤◌, ◌++◌, List, [], ◌∷◌, length, true, All, Contains, IfOk, OnOk, Some, slice_get, slice_set};
+ghost use Rattle.std.specs.Prelude.{◌≡◌, ◌<◌, ◌++◌, List, [], ◌∷◌, length, true, All, Contains, IfOk, OnOk, slice_set};
+ghost use Rattle.palm_book.specs.Book.{IsUser};
 ghost use Rattle.palm_cert.specs.Certificate.{claim_var, claimed};
 ghost use Rattle.palm_cert.specs.Needs.{AreNeeds, AreSteps, IsNumbered, IsNumberOf, IsOfBook, cites_of, numbers_at, removals_at};
 ghost use Rattle.palm_explain.specs.Explanations.{IsLinked};
-ghost use Rattle.palm_explain.specs.Needed.{AreNeeded, Climbs};
+ghost use Rattle.palm_explain.specs.Needed.{AreNeeded};
 ghost use Rattle.palm_model.specs.Log.{Removal, log_pairs};
 
 use palm_base::{Cid, NoMemory, Pair, Var};
@@ -28,7 +29,7 @@ pub fn needs_of(
     claim: &Claim,
 ) -> Result<Needs, NoMemory>
     requires linked { IsLinked log.now.log }
-    requires logged { All (IsOfBook book.now) log.now.log }
+    requires logged { All (IsOfBook book.now (IsUser book.now)) log.now.log }
     requires variable { claim_var claim.now < length book.now.variables }
     ensures { IfOk result (AreNeeds book.now log.now.log claim.now) }
 {
@@ -70,7 +71,7 @@ fn cited_by(
     log: &ExplainStore,
     steps: &[usize],
 ) -> Result<Vec<bool>, NoMemory>
-    requires logged { All (IsOfBook book.now) log.now.log }
+    requires logged { All (IsOfBook book.now (IsUser book.now)) log.now.log }
     requires within { All (λ place. place < length log.now.log) steps.now }
     ensures { IfOk result (λ cited. cited.items ≡ cites_of book.now (removals_at log.now.log steps.now)) }
 {
@@ -144,19 +145,9 @@ fn number_at(log: &ExplainStore, steps: &[usize], pair: Pair) -> usize
     requires proved { Contains (log_pairs (removals_at log.now.log steps.now)) pair }
     ensures { IsNumberOf (removals_at log.now.log steps.now) result pair }
 {
-    match log.place_of(pair) {
-        Some(place) => number_from(steps, place),
-        None => unreachable!(),
-    }
-}
-
-/// The number of the step at a place of the log.
-fn number_from(steps: &[usize], place: usize) -> usize
-    requires climbs { Climbs steps.now }
-    requires step { Contains steps.now place }
-    ensures positive { 1 ≤ result }
-    ensures at { slice_get steps.now (result - 1) ≡ Some place }
-{
+    let Some(place) = log.place_of(pair) else {
+        unreachable!();
+    };
     match steps.binary_search(&place) {
         Ok(index) => index + 1,
         Err(_) => unreachable!(),

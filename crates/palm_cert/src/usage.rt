@@ -1,8 +1,9 @@
 //! Which variables a certificate declares.
-ghost use Rattle.std.specs.Prelude.{◌≡◌, length};
-ghost use Rattle.palm_cert.specs.Certificate.{is_used};
-ghost use Rattle.palm_cert.specs.Needs.{has_term, has_var, marked};
+ghost use Rattle.std.specs.Prelude.{◌≡◌, List, length};
+ghost use Rattle.palm_cert.specs.Certificate.{cited, is_used};
+ghost use Rattle.palm_cert.specs.Needs.{cites_of, has_term, has_var};
 ghost use Rattle.palm_model.specs.Count.{target_scope};
+ghost use Rattle.palm_model.specs.Log.{Removal};
 ghost use Rattle.palm_model.specs.State.{is_over};
 
 use palm_base::Var;
@@ -12,13 +13,14 @@ use palm_model::{Con, Target, Term};
 /// Whether the variable is the claimed one or in the scope of a cited constraint.
 pub fn is_used(book: &Book, marks: &[bool], claimed: Var, var: Var) -> bool
     requires { length marks.now ≡ length book.now.constraints }
-    ensures { result ≡ is_used (marked marks.now book.now.constraints) claimed var }
+    ensures { (rs : List Removal) → marks.now ≡ cites_of book.now rs → result ≡ is_used (cited rs book.now) claimed var }
 {
     if claimed.0 == var.0 {
         return true;
     }
     for place in 0..book.constraints() {
-        if marks[place] && is_over(&book.constraint(place).con, var) {
+        let entry = book.constraint(place);
+        if marks[place] && is_over(&entry.con, var) {
             return true;
         }
     }
@@ -26,7 +28,7 @@ pub fn is_used(book: &Book, marks: &[bool], claimed: Var, var: Var) -> bool
 }
 
 /// Whether the variable is in the scope of the constraint.
-#[tactic(auto, using(crate::proofs::Uses::terms_have, crate::proofs::Uses::scope_has))]
+#[tactic(auto, using(crate::proofs::Marks::terms_have, crate::proofs::Marks::scope_has))]
 fn is_over(con: &Con, var: Var) -> bool
     ensures { result ≡ is_over con.now var }
 {

@@ -1,34 +1,28 @@
 -- What is known of a search that fits a book: all that is written of it has a name.
-use Rattle.std.proofs.Common.{◌≡◌, ℕ, ℤ, ◌<◌, Bool, true, false, not, Some, List, [], ◌∷◌, length, All, Contains, inl, inr, refl, sym, ap, ◌∙◌, subst}
+use Rattle.std.proofs.Common.{◌≡◌, ℕ, ℤ, ◌<◌, Bool, true, false, not, List, [], ◌∷◌, length, All, Contains, inl, inr, refl, sym, ap, ◌∙◌, subst}
 use Rattle.std.proofs.lemmas.Bool.{cases_Bool, false≢true}
-use Rattle.std.specs.Prelude.{slice_get}
 use Rattle.std.proofs.lemmas.List.{length-map}
-use Rattle.std.proofs.lemmas.List.Elements.{All-contains}
-use Rattle.std.proofs.lemmas.Option.{same_Some}
 use Rattle.palm_base.specs.declared.terms.Pair.{Pair}
 use Rattle.palm_base.specs.declared.terms.Cid.{Cid}
 use Rattle.palm_base.specs.declared.terms.Cid.TheVariants.{Decide, Not, User}
-use Rattle.palm_base.proofs.cited.Members.{all_members, filter_member, member_get}
+use Rattle.palm_base.proofs.cited.Members.{all_members, filter_member}
 use Rattle.palm_model.specs.Domains.{Domains, values_of}
-use Rattle.palm_model.specs.Log.{Active, IsActive, Removal, log_pairs}
-use Rattle.palm_model.specs.Log.Names.{by_itself}
+use Rattle.palm_model.specs.Log.{Active, IsActive, log_pairs}
 use Rattle.palm_model.specs.State.{EngineState, IsEmptyAt, IsValid, is_user, present}
 use Rattle.palm_model.proofs.cited.Narrowing.{has_declared}
 use Rattle.palm_model.proofs.cited.Without.{length_without}
 use Rattle.palm_events.specs.Reasons.{ReasonsAreRight}
-use Rattle.palm_events.proofs.cited.Conflicts.{cids_active, flat_justifiers}
-use Rattle.palm_book.specs.Book.{BookVar, Contents, IsUser, active_of, initial_of, values_at}
-use Rattle.palm_cert.proofs.cited.Logged.{active_user, by_of, declared_from, some_removal}
-use Rattle.palm_cert.proofs.cited.Numbers.{pair_at}
+use Rattle.palm_events.proofs.cited.Conflicts.{flat_justifiers}
+use Rattle.palm_book.specs.Book.{Contents, IsUser, active_of, initial_of, values_at}
+use Rattle.palm_cert.proofs.cited.Logged.{active_user, as_long}
 use Rattle.palm_cert.proofs.cited.Reached.{values_same}
-use Rattle.palm_explain.specs.Explanations.{log_bys}
 use Rattle.palm_search.specs.Breaking.{HasTurned}
 use Rattle.palm_search.specs.Kept.{HasOnlyUsers}
 use Rattle.palm_search.specs.Search.{HasNoSolution, IsFound}
 use Rattle.palm_search.specs.Turns.{SearchState}
 use Rattle.palm_search.proofs.cited.Leaving.{turned_ended}
 use Rattle.palm_search.specs.declared.turn.Turn.{Turn}
-use Rattle.proof_write.specs.Fitting.{FitsBook, IsNamed, IsWritable}
+use Rattle.proof_write.specs.Fitting.{FitsBook, IsNamed}
 
 -- ---- users
 
@@ -55,12 +49,9 @@ named_user book (User n) named user = named
 -- ---- a search that fits
 
 module _ (book : Contents) (s : SearchState) (fits : FitsBook book s) where
-  long : length s.engine.initial ≡ length book.variables
-  long = ap (λ (d : Domains). length d) fits.initial ∙ length-map book.variables (λ (e : BookVar). e.values)
-
   -- the emptied variable is one of the book
   pub emptied_declared : (x : ℕ) → IsEmptyAt (present s.engine) x → x < length book.variables
-  emptied_declared x empty = subst (λ (n : ℕ). x < n) (length_without s.engine.initial (log_pairs s.engine.log) ∙ long) empty.exists
+  emptied_declared x empty = subst (λ (n : ℕ). x < n) (length_without s.engine.initial (log_pairs s.engine.log) ∙ as_long s.engine.initial book fits.initial) empty.exists
 
   -- with its values
   pub emptied_values : (x : ℕ) → values_at book.variables x ≡ values_of s.engine.initial x
@@ -68,16 +59,6 @@ module _ (book : Contents) (s : SearchState) (fits : FitsBook book s) where
 
   pub decisions_declared : All (λ p. p.var < length book.variables) s.decisions
   decisions_declared = all_members (λ (p : Pair). p.var < length book.variables) s.decisions fits.decided
-
-  -- each removal can be written
-  writable : IsValid s.engine → (r : Removal) → Contains s.engine.log r → IsWritable book r
-  writable valid r m = record {
-    variable = subst (λ (n : ℕ). r.pair.var < n) long (has_declared s.engine.initial r.pair.var r.pair.value (declared_from s.engine.initial s.engine.active [] s.engine.log valid.founded r m));
-    by = fits.users r.by (cids_active s.engine.initial s.engine.active s.engine.log r.by valid.founded r m (by_itself r refl));
-  }
-
-  pub log_writable : IsValid s.engine → All (IsWritable book) s.engine.log
-  log_writable valid = all_members (IsWritable book) s.engine.log (writable valid)
 
   -- the users that have no solution are constraints of the book
   pub none_users : IsValid s.engine → (users : List Cid) → HasNoSolution s.engine users → All (IsUser book) users
@@ -89,24 +70,7 @@ module _ (book : Contents) (s : SearchState) (fits : FitsBook book s) where
   pub found_long : (values : List ℤ) → IsFound (present s.engine) values → length values ≡ length book.variables
   found_long values found =
       sym (length-map values (λ (v : ℤ). v ∷ [])) ∙ ap (λ (d : Domains). length d) (sym found)
-      ∙ length_without s.engine.initial (log_pairs s.engine.log) ∙ long
-
--- ---- a removal of the log
-
-module _ (book : Contents) (log : List Removal) (logged : All (IsWritable book) log) (place : ℕ) (lt : place < length log) where
-  at_place : IsWritable book (some_removal log place lt).0
-  at_place = All-contains (IsWritable book) log (some_removal log place lt).0 logged (member_get log place (some_removal log place lt).0 (some_removal log place lt).1)
-
-  pub named_here : (by : Cid) → slice_get (log_bys log) place ≡ Some by → IsNamed book by
-  named_here by there =
-      let r = some_removal log place lt in
-      subst (λ (c : Cid). IsNamed book c) (by_of log place r.0 by r.1 there) at_place.by
-
-  pub variable_here : (p : Pair) → slice_get (log_pairs log) place ≡ Some p → p.var < length book.variables
-  variable_here p there =
-      let r = some_removal log place lt in
-      let same : r.0.pair ≡ p = same_Some r.0.pair p (sym (pair_at log place r.0 r.1) ∙ there) in
-      subst (λ (q : Pair). q.var < length book.variables) same at_place.variable
+      ∙ length_without s.engine.initial (log_pairs s.engine.log) ∙ as_long s.engine.initial book fits.initial
 
 -- ---- along a run
 
@@ -116,7 +80,6 @@ pub turned_fits : ReasonsAreRight → (guided ordered : Bool) (budget : ℕ) (bo
 turned_fits right guided ordered budget book s turns t valid initial active turned =
     let ended = turned_ended right guided ordered s turned.start turns t (book_users book s active) valid turned.settles turned.taken in
     let same : t.engine.initial ≡ initial_of book = ended.remembers.initial ∙ initial in
-    let count : length t.engine.initial ≡ length book.variables = ap (λ (d : Domains). length d) same ∙ length-map book.variables (λ (e : BookVar). e.values) in
     record {
       initial = same;
       users = λ c is. elim (cases_Bool (is_user c)) [
@@ -124,7 +87,7 @@ turned_fits right guided ordered budget book s turns t valid initial active turn
             (subst (λ (k : Cid). IsActive s.active k) is.named (ended.remembers.others is.owner is.posted (ap not (subst (λ (k : Cid). is_user k ≡ true) (sym is.named) user))))))
         | inr other ↦ no_user_named book c other
       ];
-      decided = λ p m. subst (λ (n : ℕ). p.var < n) count (has_declared t.engine.initial p.var p.value (ended.searching.declared.decided p m));
+      decided = λ p m. subst (λ (n : ℕ). p.var < n) (as_long t.engine.initial book same) (has_declared t.engine.initial p.var p.value (ended.searching.declared.decided p m));
     }
   where
     no_user_named : (book : Contents) (c : Cid) → is_user c ≡ false → IsNamed book c

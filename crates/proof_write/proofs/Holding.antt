@@ -1,7 +1,9 @@
 -- The words of the decisions that are held, one after another.
-use Rattle.std.proofs.Common.{◌≡◌, ℕ, ◌+◌, ◌<◌, Bool, true, false, cond, List, [], ◌∷◌, ◌++◌, length, take, get_or, map, Contains, codes, inl, inr, refl, sym, ap, ◌∙◌, append-nil, append_assoc}
+use Rattle.std.proofs.Common.{◌≡◌, ℕ, ◌+◌, ◌<◌, Bool, true, false, cond, List, [], ◌∷◌, ◌++◌, length, take, get_or, map, Contains, codes, inl, inr, refl, sym, ap, ◌∙◌, append-nil}
 use Rattle.std.proofs.lemmas.Bool.{cases_Bool}
-use Rattle.std.proofs.lemmas.List.{take_more}
+use Rattle.std.proofs.lemmas.Grind.{flat_map-append}
+use Rattle.std.proofs.lemmas.List.{map-append}
+use Rattle.std.proofs.lemmas.List.Elements.{filter_more}
 use Rattle.palm_base.specs.declared.terms.Pair.{Pair}
 use Rattle.palm_base.specs.declared.terms.Cid.{Cid}
 use Rattle.palm_base.specs.declared.terms.Cid.TheVariants.{Decide}
@@ -24,25 +26,20 @@ module _ (variables : List BookVar) (held : List Cid) where
   abbrev pub held_words : List Pair → List ℕ
   held_words decisions = after_spaces (map (pair_word variables) (held_decisions decisions held))
 
-  held_one : (b : Bool) (p : Pair) → after_spaces (map (pair_word variables) (cond b (p ∷ []) [])) ≡ cond b (codes " " ++ pair_word variables p) []
-  held_one true p = append-nil (codes " " ++ pair_word variables p)
-  held_one false p = refl
+  words_both : (ps qs : List Pair) → after_spaces (map (pair_word variables) (ps ++ qs)) ≡ after_spaces (map (pair_word variables) ps) ++ after_spaces (map (pair_word variables) qs)
+  words_both ps qs =
+      ap (λ (ws : List (List ℕ)). after_spaces ws) (map-append (pair_word variables) ps qs)
+      ∙ flat_map-append (λ (w : List ℕ). codes " " ++ w) (map (pair_word variables) ps) (map (pair_word variables) qs)
 
-  held_before : (b : Bool) (d p : Pair) (ds : List Pair) → held_words (ds ++ p ∷ []) ≡ held_words ds ++ cond (is_named held (Decide p.var)) (codes " " ++ pair_word variables p) []
-      → after_spaces (map (pair_word variables) (cond b (d ∷ held_decisions (ds ++ p ∷ []) held) (held_decisions (ds ++ p ∷ []) held)))
-      ≡ after_spaces (map (pair_word variables) (cond b (d ∷ held_decisions ds held) (held_decisions ds held))) ++ cond (is_named held (Decide p.var)) (codes " " ++ pair_word variables p) []
-  held_before true d p ds rest =
-      ap (λ (t : List ℕ). (codes " " ++ pair_word variables d) ++ t) rest
-      ∙ sym (append_assoc (codes " " ++ pair_word variables d) (held_words ds) (cond (is_named held (Decide p.var)) (codes " " ++ pair_word variables p) []))
-  held_before false d p ds rest = rest
-
-  held_push : (ds : List Pair) (p : Pair) → held_words (ds ++ p ∷ []) ≡ held_words ds ++ cond (is_named held (Decide p.var)) (codes " " ++ pair_word variables p) []
-  held_push [] p = held_one (is_named held (Decide p.var)) p
-  held_push (d ∷ ds) p = held_before (is_named held (Decide d.var)) d p ds (held_push ds p)
+  words_one : (b : Bool) (p : Pair) → after_spaces (map (pair_word variables) (cond b (p ∷ []) [])) ≡ cond b (codes " " ++ pair_word variables p) []
+  words_one true p = append-nil (codes " " ++ pair_word variables p)
+  words_one false p = refl
 
   -- one more decision, by whether it is held
   pub held_more : (decisions : List Pair) (i : ℕ) (p : Pair) (b : Bool) → i < length decisions → p ≡ get_or decisions i p → b ≡ is_named held (Decide p.var)
       → held_words (take (i + 1) decisions) ≡ held_words (take i decisions) ++ cond b (codes " " ++ pair_word variables p) []
   held_more decisions i p b lt is told =
-      ap (λ (ds : List Pair). held_words ds) (take_more decisions i p lt ∙ ap (λ (q : Pair). take i decisions ++ q ∷ []) (sym is))
-      ∙ held_push (take i decisions) p ∙ ap (λ (t : Bool). held_words (take i decisions) ++ cond t (codes " " ++ pair_word variables p) []) (sym told)
+      ap (λ (ps : List Pair). after_spaces (map (pair_word variables) ps)) (filter_more (λ (q : Pair). is_named held (Decide q.var)) decisions i p lt)
+      ∙ words_both (held_decisions (take i decisions) held) (cond (is_named held (Decide (get_or decisions i p).var)) (get_or decisions i p ∷ []) [])
+      ∙ ap (λ (q : Pair). held_words (take i decisions) ++ after_spaces (map (pair_word variables) (cond (is_named held (Decide q.var)) (q ∷ []) []))) (sym is)
+      ∙ ap (λ (t : List ℕ). held_words (take i decisions) ++ t) (words_one (is_named held (Decide p.var)) p ∙ ap (λ (t : Bool). cond t (codes " " ++ pair_word variables p) []) (sym told))

@@ -15,23 +15,15 @@ use Rattle.palm_model.specs.State.{EngineState}
 use Rattle.palm_search.specs.Turns.{decided_vars}
 use Rattle.proof_run.specs.Lemma.{held_decisions, lemma_line, step_line, text_of_lemma, wipe_line, wiped_by}
 
--- ---- its steps
-
 -- the removals at the places are those that the emptied variable needs
-wiped_found : (s : EngineState) (log : List Removal) (places : List ℕ) (values : List ℤ) (x y : ℕ) → log ≡ s.log → values ≡ values_of s.initial y → IsLinked log → AreNeeded log (pairs_with y values) places → y ≡ x → removals_at log places ≡ wiped_by s x
-wiped_found s log places values x y logged valued linked are same =
-    steps_found log (pairs_with y values) places linked are
-    ∙ ap (λ (l : List Removal). steps_of l (pairs_with y values)) logged
-    ∙ ap (λ (vs : List ℤ). steps_of s.log (pairs_with y vs)) valued
-    ∙ ap (λ (z : ℕ). wiped_by s z) same
-
 pub lemma_made : (book : Contents) (undone pairs ps : List Pair) (s : EngineState) (log : List Removal) (places : List ℕ) (values : List ℤ) (x y : ℕ) → ps ≡ pairs → log ≡ s.log → values ≡ values_of s.initial y
     → IsLinked log → AreNeeded log (pairs_with y values) places → y ≡ x
     → lemma_line book.variables ps ++ flat_map (step_line book undone (removals_at log places)) (removals_at log places) ++ wipe_line book.variables y ≡ text_of_lemma book undone pairs (wiped_by s x) x
 lemma_made book undone pairs ps s log places values x y held logged valued linked are same =
+    let text = λ (steps : List Removal). text_of_lemma book undone pairs steps y in
     ap (λ (qs : List Pair). text_of_lemma book undone qs (removals_at log places) y) held
-    ∙ ap (λ (steps : List Removal). text_of_lemma book undone pairs steps y) (wiped_found s log places values x y logged valued linked are same)
-    ∙ ap (λ (z : ℕ). text_of_lemma book undone pairs (wiped_by s x) z) same
+    ∙ ap text (steps_found log (pairs_with y values) places linked are) ∙ ap (λ (l : List Removal). text (steps_of l (pairs_with y values))) logged
+    ∙ ap (λ (vs : List ℤ). text (steps_of s.log (pairs_with y vs))) valued ∙ ap (λ (z : ℕ). text_of_lemma book undone pairs (wiped_by s z) z) same
 
 -- ---- without decisions
 

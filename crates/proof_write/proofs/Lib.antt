@@ -3,5 +3,4 @@ pub mod Holding
 pub mod Lemmas
 pub mod Listing
 pub mod Numbering
-pub mod Reading
 pub mod Running

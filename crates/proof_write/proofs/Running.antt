@@ -1,6 +1,6 @@
 -- A run that writes its proof, turn after turn, and where it stops.
 use Rattle.std.proofs.Common.{◌≡◌, ℕ, ◌+◌, ◌≤◌, Bool, None, Option, is_some, List, [], ◌∷◌, ◌++◌, length, refl, sym, ap, ◌∙◌, subst, arith, append_assoc, append-nil, length-append, Result, Ok, Err}
-use Rattle.std.specs.Prelude.{IfErr, IsErrAnd}
+use Rattle.std.specs.Prelude.{IsErrAnd}
 use Rattle.palm_base.specs.Streams.{IsSameSink, SinkState}
 use Rattle.palm_base.specs.declared.terms.Cid.{Cid}
 use Rattle.palm_base.specs.declared.terms.Pair.{Pair}
@@ -11,7 +11,7 @@ use Rattle.palm_engine.specs.declared.settle.Settle.{Settle}
 use Rattle.palm_engine.proofs.cited.Walking.{filters_none}
 use Rattle.palm_events.proofs.cited.Reasons.{reasons_right}
 use Rattle.palm_events.specs.Scoped.{HasScopedReasons}
-use Rattle.palm_lang.specs.Writing.{IsCounted, Writes}
+use Rattle.palm_lang.specs.Writing.{Writes}
 use Rattle.palm_lang.specs.declared.stop.WriteStop.{WriteStop}
 use Rattle.palm_lang.specs.declared.stop.WriteStop.TheVariants.{NoMemory}
 use Rattle.palm_lang.proofs.cited.Writes.{stopped_behind, writes_none, writes_nothing, writes_text, writes_then}
@@ -51,7 +51,7 @@ use Rattle.proof_run.specs.Text.{Argues, ArguesTurn, Argument, Concludes, Proves
 use Rattle.proof_run.proofs.cited.Accepting.{proofs_are_accepted}
 use Rattle.proof_write.specs.Fitting.{FitsBook}
 use Rattle.proof_write.specs.Numbers.{AreNumbers}
-use Rattle.proof_write.specs.Proving.{HasRun, HasWrittenSoFar}
+use Rattle.proof_write.specs.Proving.{HasRun, HasWrittenSoFar, Stops}
 use Rattle.proof_write.specs.declared.numbers.LemmaNumbers.{LemmaNumbers}
 use Rattle.proof_write.proofs.Fitting.{book_users, turned_fits}
 
@@ -90,12 +90,6 @@ pub stopped_with : {T : Type 0} (result : Result T WriteStop) (stop : WriteStop)
 stopped_with (Ok x) stop is = absurd is
 stopped_with (Err other) stop is = ap (λ (w : WriteStop). Err w) is
 
--- what is ensured at a stop of what was written
-pub record Stops {T : Type 0} (book : Contents) (guided ordered : Bool) (budget : ℕ) (s : EngineState) (turns : List Turn) (was now : SinkState) (result : Result T WriteStop) : Type 0 where
-  pub front : IfErr result (λ stop. HasWrittenSoFar stop book guided ordered budget s turns was.written now.written)
-  pub counted : IsCounted was.faults now.faults result
-  pub sink : IsSameSink was now result
-
 pub stops : {T : Type 0} (book : Contents) (guided ordered : Bool) (budget : ℕ) (s : EngineState) (turns : List Turn) (was now : SinkState) (stop : WriteStop) (result : Result T WriteStop) (text : List ℕ) → result ≡ Err stop
     → IsTextSoFar book guided ordered budget s turns text → Writes {T = Unit {0}} was now text (Err stop) → Stops book guided ordered budget s turns was now result
 stops {T = T} book guided ordered budget s turns was now stop result text e is writes =
@@ -121,16 +115,6 @@ stopped_quietly was now text writes = record {
 }
 
 -- ---- a turn, and its lemma
-
-pub argued_alike : {G : Type 0} {guiding : Moment → Option G → Option G → Type 0} {budget : ℕ} {book : Contents} {before after then : View} {search now done : SearchView} {old new lent : Option G} {argued : Argument} {numbers kept : LemmaNumbers}
-    {was is there : SinkState} → then ≡ after → done ≡ now → lent ≡ new → kept ≡ numbers → there ≡ is → HasArgued guiding budget book before after search now old new argued numbers was is
-    → HasArgued guiding budget book before then search done old lent argued kept was there
-argued_alike {G = G} {guiding = guiding} {budget = budget} {book = book} {before = before} {after = after} {then = then} {search = first} {now = now} {done = done} {old = old} {new = new} {lent = lent} {argued = argued} {numbers = numbers} {kept = kept} {was = was} {is = is} {there = there} e f g h k done_so =
-    subst (λ (v : View). HasArgued guiding budget book before v first done old lent argued kept was there) (sym e)
-    (subst (λ (v : SearchView). HasArgued guiding budget book before after first v old lent argued kept was there) (sym f)
-    (subst (λ (o : Option G). HasArgued guiding budget book before after first now old o argued kept was there) (sym g)
-    (subst (λ (n : LemmaNumbers). HasArgued guiding budget book before after first now old new argued n was there) (sym h)
-    (subst (λ (z : SinkState). HasArgued guiding budget book before after first now old new argued numbers was z) (sym k) done_so))))
 
 module _ {G : Type 0} (answers : G → List ViewRow → Option Pair → List ℕ → Type 0) (hears : G → List ℕ → List ℕ → Type 0) (state : G → List ℕ) (budget : ℕ) (book : Contents) (before after : View) (search now : SearchView) (old new : Option G)
     (next : Next) (can : IsNext budget before.state search next) (argued : Argument) (numbers : LemmaNumbers) (was : SinkState) where

@@ -3,7 +3,7 @@ use Rattle.std.specs.Prelude.{◌≡◌, ⊤, ◌<◌, length, Contains}
 use Rattle.palm_base.specs.declared.terms.Pair.{Pair}
 use Rattle.palm_base.specs.declared.terms.Cid.{Cid}
 use Rattle.palm_base.specs.declared.terms.Cid.TheVariants.{Decide, Not, User}
-use Rattle.palm_model.specs.Log.{IsActive, Removal}
+use Rattle.palm_model.specs.Log.{IsActive}
 use Rattle.palm_book.specs.Book.{Contents, HasNumber, initial_of}
 use Rattle.palm_search.specs.Turns.{SearchState}
 
@@ -12,11 +12,6 @@ abbrev pub IsNamed : Contents → Cid → Type 0
 IsNamed book (Decide x) = ⊤
 IsNamed book (Not pair) = ⊤
 IsNamed book (User n) = HasNumber book n
-
--- the removal is of a variable of the book, and if it is by a user, by one of its constraints
-pub record IsWritable (book : Contents) (r : Removal) : Type 0 where
-  pub variable : r.pair.var < length book.variables
-  pub by : IsNamed book r.by
 
 -- the engine has the book's variables, its users are constraints of the book, and the decided variables exist
 pub record FitsBook (book : Contents) (s : SearchState) : Type 0 where

@@ -1,4 +1,3 @@
-pub mod Ending
 pub mod Fitting
 pub mod Lines
 pub mod Numbers

@@ -1,10 +1,10 @@
 -- What a search that writes its proof has done.
-use Rattle.std.specs.Prelude.{◌≡◌, ℕ, Bool, is_some, List, Option}
-use Rattle.palm_base.specs.Streams.{Appended}
+use Rattle.std.specs.Prelude.{◌≡◌, ℕ, Bool, is_some, List, Option, Result, IfErr}
+use Rattle.palm_base.specs.Streams.{Appended, IsSameSink, SinkState}
 use Rattle.palm_model.specs.State.{EngineState}
 use Rattle.palm_book.specs.Book.{Contents, active_of, initial_of}
 use Rattle.palm_engine.specs.Following.{Hearing}
-use Rattle.palm_lang.specs.Writing.{AppendedUntil}
+use Rattle.palm_lang.specs.Writing.{AppendedUntil, IsCounted}
 use Rattle.palm_lang.specs.declared.stop.WriteStop.{WriteStop}
 use Rattle.palm_search.specs.declared.ending.SearchEnd.{SearchEnd}
 use Rattle.palm_search.specs.declared.turn.Turn.{Turn}
@@ -40,3 +40,10 @@ pub record HasWrittenSoFar (stop : WriteStop) (book : Contents) (guided ordered 
   pub text : List ℕ
   pub is : IsTextSoFar book guided ordered budget s turns text
   pub written : AppendedUntil stop before now text
+
+-- what stands behind a run: at a stop a front of what was to be written so far was written, the faults are counted, and the
+-- sink is the same
+pub record Stops {T : Type 0} (book : Contents) (guided ordered : Bool) (budget : ℕ) (s : EngineState) (turns : List Turn) (was now : SinkState) (result : Result T WriteStop) : Type 0 where
+  pub front : IfErr result (λ stop. HasWrittenSoFar stop book guided ordered budget s turns was.written now.written)
+  pub counted : IsCounted was.faults now.faults result
+  pub sink : IsSameSink was now result

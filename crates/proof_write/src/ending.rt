@@ -1,20 +1,16 @@
 //! Writing how a run ends.
-ghost use Rattle.std.specs.Prelude.{ℕ, List, All, length};
+ghost use Rattle.std.specs.Prelude.{ℕ, List, length};
 ghost use Rattle.palm_base.specs.declared.terms.Pair.{Pair as PairTerm};
-ghost use Rattle.palm_book.specs.Book.{IsUser};
-ghost use Rattle.palm_lang.specs.Writer.{Wrote};
 ghost use Rattle.palm_lang.specs.Writing.{Writes};
-ghost use Rattle.palm_model.specs.State.{HasEmpty, IsEmptyAt, present};
 ghost use Rattle.palm_search.specs.Calls.{search_state};
 ghost use Rattle.palm_search.specs.Search.{EndsWith};
 ghost use Rattle.proof_run.specs.Text.{Concludes};
-ghost use Rattle.proof_write.specs.Ending.{none_text};
 ghost use Rattle.proof_write.specs.Fitting.{FitsBook};
 ghost use Rattle.proof_write.specs.Numbers.{AreNumbers};
 
 use crate::lemma::write_text_of_lemma;
 use crate::notes::Notes;
-use palm_base::{CidList, Sink};
+use palm_base::Sink;
 use palm_engine::Engine;
 use palm_filter::Filter;
 use palm_lang::{Book, Fixed, Lead, WriteStop, Writer};
@@ -40,7 +36,11 @@ pub(crate) fn write_end<F: Filter, K: Sink>(
     let _ = engine.store();
     let mut writer = Writer::new(out, buffer);
     match end {
-        SearchEnd::NoSolution(users) => write_none(engine, search, book, users, notes, &mut writer),
+        SearchEnd::NoSolution(users) => {
+            write_text_of_lemma(engine, search, book, &[], notes, &mut writer)?;
+            writer.names(book, Lead::NoSolution, users)?;
+            writer.word(Fixed::End)
+        }
         SearchEnd::Found(values) => {
             writer.found(book, values)?;
             writer.word(Fixed::End)
@@ -50,24 +50,4 @@ pub(crate) fn write_end<F: Filter, K: Sink>(
             writer.word(Fixed::End)
         }
     }
-}
-
-/// Writes the lemma of the emptied variable, of no decision, and the users.
-fn write_none<F: Filter, K: Sink>(
-    engine: &Engine<F>,
-    search: &Search,
-    book: &Book,
-    users: &CidList,
-    notes: &mut Notes,
-    writer: &mut Writer<'_, K>,
-) -> Result<(), WriteStop>
-    requires fits { FitsBook book.now (search_state engine.now.state search.now) }
-    requires empty { HasEmpty (present engine.now.state) }
-    requires users { All (IsUser book.now) users.now }
-    ensures { (undone : List PairTerm) (x : ℕ) → AreNumbers undone notes.old.numbers
-        → IsEmptyAt (present engine.now.state) x → Wrote K.state writer.old writer.new (none_text book.now undone engine.now.state x users.now) result }
-{
-    write_text_of_lemma(engine, search, book, &[], notes, writer)?;
-    writer.names(book, Lead::NoSolution, users)?;
-    writer.word(Fixed::End)
 }

@@ -1,13 +1,13 @@
 //! Writing a lemma: the decisions that it rests on, the steps that the emptied variable needs, and that variable.
-ghost use Rattle.std.specs.Prelude.{◌≡◌, ◌<◌, ℕ, List, [], ◌∷◌, All, Contains, length, flat_map};
+ghost use Rattle.std.specs.Prelude.{◌≡◌, ◌<◌, ℕ, List, [], ◌∷◌, All, length, flat_map};
 ghost use Rattle.palm_base.specs.declared.terms.Pair.{Pair as PairTerm};
-ghost use Rattle.palm_cert.specs.Needs.{AreSteps, removals_at};
+ghost use Rattle.palm_cert.specs.Needs.{AreSteps, IsOfBook, IsStepAt, removals_at};
 ghost use Rattle.palm_lang.specs.Writer.{Wrote};
 ghost use Rattle.palm_lang.specs.Writing.{Writes};
 ghost use Rattle.palm_model.specs.State.{HasEmpty, IsEmptyAt, present};
 ghost use Rattle.palm_search.specs.Calls.{search_state};
 ghost use Rattle.proof_run.specs.Lemma.{held_decisions, lemma_line, step_line, text_of_lemma, wiped_by, wipe_line};
-ghost use Rattle.proof_write.specs.Fitting.{FitsBook, IsWritable};
+ghost use Rattle.proof_write.specs.Fitting.{FitsBook, IsNamed};
 ghost use Rattle.proof_write.specs.Lines.{assumed_line, given_line};
 ghost use Rattle.proof_write.specs.Numbers.{AreNumbers};
 
@@ -111,7 +111,7 @@ fn write_steps<K: Sink>(
     writer: &mut Writer<'_, K>,
 ) -> Result<(), WriteStop>
     requires steps { AreSteps log.now.log steps.now }
-    requires logged { All (IsWritable book.now) log.now.log }
+    requires logged { All (IsOfBook book.now (IsNamed book.now)) log.now.log }
     ensures { (undone : List PairTerm) → AreNumbers undone lemmas.now → Wrote K.state writer.old writer.new
         (flat_map (step_line book.now undone (removals_at log.now.log steps.now)) (removals_at log.now.log steps.now)) result }
 {
@@ -131,9 +131,7 @@ fn write_step<K: Sink>(
     reasons: &mut Vec<usize>,
     writer: &mut Writer<'_, K>,
 ) -> Result<(), WriteStop>
-    requires steps { AreSteps log.now.log steps.now }
-    requires logged { All (IsWritable book.now) log.now.log }
-    requires step { Contains steps.now place }
+    requires { IsStepAt book.now (IsNamed book.now) log.now.log steps.now place }
     ensures { (undone : List PairTerm) → AreNumbers undone lemmas.now
         → Wrote K.state writer.old writer.new (flat_map (step_line book.now undone (removals_at log.now.log steps.now)) (removals_at log.now.log (place ∷ []))) result }
 {

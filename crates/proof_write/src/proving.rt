@@ -11,7 +11,7 @@ ghost use Rattle.palm_search.specs.Following.{GuideFollows};
 ghost use Rattle.palm_search.specs.Leaves.{Counts, Leaves, Lent};
 ghost use Rattle.palm_search.specs.Machine.{GivesBack, HasRunOn, state_of};
 ghost use Rattle.palm_search.specs.Stopping.{BreaksOffBy, GuideStops, IsCutOffBy};
-ghost use Rattle.proof_write.specs.Proving.{HasProved, HasRun, HasWrittenSoFar, IsListedInBook};
+ghost use Rattle.proof_write.specs.Proving.{HasProved, HasRun, HasWrittenSoFar, IsListedInBook, Stops};
 
 use crate::declarations::write_declarations;
 use crate::ending::write_end;
@@ -129,12 +129,9 @@ fn run<F: Filter, G: Guide, O: Order, K: Sink, L: Ledger>(
         (OrderFollows O.answers O.hears O.state) (OrderAnswers O.answers O.state)
         machine.old.guide.now machine.new.guide.now machine.old.order.now machine.new.order.now
         budget machine.old.engine.now.state machine.new.search.now.journal machine.new.engine.now.state) }
-    ensures front { IfErr result (λ stop. HasWrittenSoFar stop book.now
-        (is_some machine.old.guide.now) (is_some machine.old.order.now)
+    ensures stops { Stops book.now (is_some machine.old.guide.now) (is_some machine.old.order.now)
         budget machine.old.engine.now.state machine.new.search.now.journal
-        (K.state out.old).written (K.state out.new).written) }
-    ensures counted { IsCounted (K.state out.old).faults (K.state out.new).faults result }
-    ensures sink { IsSameSink (K.state out.old) (K.state out.new) result }
+        (K.state out.old) (K.state out.new) result }
     ensures ran { HasRunOn machine.old machine.new }
     ensures scoped { HasScopedReasons machine.old.engine.now.state }
 {

@@ -16,7 +16,7 @@ use Rattle.palm_book.proofs.cited.Any.{any_member}
 use Rattle.palm_claim.specs.Draft.{blank}
 use Rattle.palm_claim.specs.Step.{pairs_at}
 use Rattle.palm_claim.specs.Claim.{IsOver}
-use Rattle.palm_claim.specs.Verdict.{certificates, ending}
+use Rattle.palm_claim.specs.Verdict.{certificates}
 use Rattle.palm_claim.specs.declared.statement.Stage.TheVariants.{Closed}
 use Rattle.palm_claim.specs.declared.verdict.Claim.{Claim}
 use Rattle.palm_claim.specs.declared.verdict.Claim.TheVariants.{Conflict, Gone}
@@ -27,7 +27,7 @@ use Rattle.palm_base.proofs.cited.CidOrder.{same_cid_itself}
 use Rattle.palm_lang.specs.Reply.{fixed_text}
 use Rattle.palm_lang.specs.declared.reply.Fixed.TheVariants.{End}
 use Rattle.palm_model.specs.Constraint.{IsWellFormed, scope}
-use Rattle.palm_model.specs.Domains.{Domains, Has, without}
+use Rattle.palm_model.specs.Domains.{without}
 use Rattle.palm_base.specs.Order.{same_cid}
 use Rattle.palm_model.specs.Log.{Removal, log_pairs}
 use Rattle.palm_model.specs.State.{EngineState, IsValid, is_over}
@@ -40,8 +40,7 @@ use Rattle.palm_cert.specs.SameClaim.{IsSameClaim}
 use Rattle.palm_cert.proofs.cited.Before.{before_from, filter_shorter, range_has, range_rises, range_within}
 use Rattle.palm_cert.proofs.Declaring.{AreDeclared, Lists, declarations_read, list_open}
 use Rattle.palm_cert.proofs.cited.Earlier.{owner_named, step_declared, step_owner, steps_numbered}
-use Rattle.palm_cert.proofs.cited.Links.{pair_removal}
-use Rattle.palm_cert.proofs.cited.Logged.{claim_declared, declared_from}
+use Rattle.palm_cert.proofs.cited.Logged.{claim_declared, removed_has}
 use Rattle.palm_cert.proofs.Proving.{IsClaimed, IsStep, claim_reads, other_claim, own, proved_by, proving, steps_read}
 use Rattle.palm_cert.proofs.cited.Reached.{claim_reached}
 use Rattle.palm_claim.proofs.cited.Passing.{Reads, reads_then, reads_verdict}
@@ -137,16 +136,9 @@ module _ (book : Contents) (us : List ℕ) (cs acc : List BookCon) (are : AreDec
       over (Gone pair) used = place_declared book.variables us pair.var used
       over (Conflict x) used = place_declared book.variables us x used
 
--- a draft that is closed ends with its claim
-closed_ends : (claim : Claim) (book : Contents) (n : ℕ) → ending (Closed claim) book n ≡ Accepted (record { claim = claim; book = book })
-closed_ends claim book n = refl
-
 -- a claimed pair was declared
 claimable : (s : EngineState) (book : Contents) → IsValid s → s.initial ≡ initial_of book → (claim : Claim) → CanClaim s claim → IsClaimed book claim
-claimable s book valid initial (Gone pair) can =
-    let r = pair_removal s.log pair can in
-    subst (λ (p : Pair). Has (initial_of book) p.var p.value) r.2
-    (subst (λ (d : Domains). Has d r.0.pair.var r.0.pair.value) initial (declared_from s.initial s.active [] s.log valid.founded r.0 r.1))
+claimable s book valid initial (Gone pair) can = removed_has s book valid initial pair can
 claimable s book valid initial (Conflict x) can = tt
 
 pub certificate_accepted : (s : EngineState) (book : Contents) (claim : Claim) → IsBook book → IsValid s → s.initial ≡ initial_of book → s.active ≡ active_of book
@@ -175,6 +167,6 @@ certificate_accepted s book claim is valid initial active can read =
     let whole = reads_then certificates blank start end (declarations book cs x) (proof_lines book steps claim) first.reads rest in
     record {
       proved = record { claim = mine; book = own book us cs acc are lists };
-      verdict = reads_verdict certificates blank (certificate_text book s.log claim) end (Accepted (record { claim = mine; book = own book us cs acc are lists })) (closed_ends mine (own book us cs acc are lists)) whole;
+      verdict = reads_verdict certificates blank (certificate_text book s.log claim) end (Accepted (record { claim = mine; book = own book us cs acc are lists })) (λ n. refl) whole;
       same = same_claim book us cs acc are lists claim used;
     }

@@ -1,5 +1,5 @@
 -- The lines of variables and constraints: each is read as the variable or the constraint that it was written for.
-use Rattle.std.proofs.Common.{◌≢◌, ℕ, zero, suc, ◌<◌, List, [], ◌∷◌, length, map, All, AllPairs, inl, inr, refl, sym, subst, arith}
+use Rattle.std.proofs.Common.{◌≢◌, ℕ, ◌<◌, List, [], ◌∷◌, length, map, All, AllPairs, inl, inr, refl, sym, subst}
 use Rattle.std.proofs.lemmas.List.Elements.{All-contains, All-head, All-map, All-tail, All-weaker}
 use Rattle.palm_base.proofs.cited.Members.{member_same, member_unmap}
 use Rattle.palm_book.specs.Book.{AreValues, Contents, BookVar, IsBook, name_of, values_at}
@@ -23,14 +23,10 @@ use Rattle.palm_cert.specs.Readable.{IsDeclaredBy}
 -- ---- names of variables
 
 pub name_text : (variables : List BookVar) (x : ℕ) → All (λ e. IsNameText e.name) variables → x < length variables → IsNameText (name_of variables x)
-name_text [] x h lt = absurd (omega (arith, lt))
-name_text (e ∷ es) zero h lt = All-head (λ (f : BookVar). IsNameText f.name) e es h
-name_text (e ∷ es) (suc x) h lt = name_text es x (All-tail (λ (f : BookVar). IsNameText f.name) e es h) (omega (arith, lt))
+name_text variables x h lt = h x (record { name = []; values = [] }) lt
 
 pub are_values : (variables : List BookVar) (x : ℕ) → All (λ e. AreValues e.values) variables → x < length variables → AreValues (values_at variables x)
-are_values [] x h lt = absurd (omega (arith, lt))
-are_values (e ∷ es) zero h lt = All-head (λ (f : BookVar). AreValues f.values) e es h
-are_values (e ∷ es) (suc x) h lt = are_values es x (All-tail (λ (f : BookVar). AreValues f.values) e es h) (omega (arith, lt))
+are_values variables x h lt = h x (record { name = []; values = [] }) lt
 
 -- the line of each variable of a book says it
 pub variable_says : (book : Contents) → IsBook book → (x : ℕ) → x < length book.variables → (line : List ℕ) × IsDeclaredBy book.variables x line

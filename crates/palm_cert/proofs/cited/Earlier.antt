@@ -1,13 +1,13 @@
 -- A step among the others: the numbers of its reasons are those of earlier steps, and it is right behind these.
-use Rattle.std.proofs.Common.{◌≡◌, ℕ, ◌+◌, ◌-◌, ◌≤◌, zero, suc, Some, List, [], ◌∷◌, ◌++◌, length, filter, All, Contains, refl, sym, ap, ◌∙◌, subst, append_assoc, append-nil, arith}
+use Rattle.std.proofs.Common.{◌≡◌, ℕ, ◌+◌, ◌-◌, ◌≤◌, Some, List, [], ◌∷◌, ◌++◌, length, All, Contains, refl, sym, ap, ◌∙◌, subst, append_assoc, append-nil, arith}
 use Rattle.std.specs.Prelude.{IfSome, slice_get}
-use Rattle.std.proofs.lemmas.List.{length-map, map-append}
-use Rattle.std.proofs.lemmas.Option.{get_or_from_slice_get, none-some, slice_get_within}
+use Rattle.std.proofs.lemmas.List.{get_or_append_left, length-append, length-map, map-append}
+use Rattle.std.proofs.lemmas.Option.{get_or_from_slice_get, slice_get-get_or, slice_get_within}
 use Rattle.palm_base.specs.declared.terms.Pair.{Pair}
 use Rattle.palm_base.specs.declared.terms.Cid.{Cid}
 use Rattle.palm_base.specs.declared.terms.Cid.TheVariants.{User}
-use Rattle.palm_base.proofs.cited.Members.{all_members, filter_member, member_map, member_place, member_same, member_unmap}
-use Rattle.palm_book.specs.Book.{Contents, IsBook, active_of, initial_of, user_at, user_name}
+use Rattle.palm_base.proofs.cited.Members.{all_members, member_map, member_place, member_same}
+use Rattle.palm_book.specs.Book.{Contents, IsBook, active_of, initial_of, user_name}
 use Rattle.palm_book.specs.declared.book.BookCon.{BookCon}
 use Rattle.palm_book.proofs.cited.BookLemmas.{number_name_at}
 use Rattle.palm_claim.specs.Step.{IsRight, pair_at, pairs_at}
@@ -22,6 +22,7 @@ use Rattle.palm_model.specs.declared.constraint.Con.{Con}
 use Rattle.palm_model.proofs.cited.Without.{without_grows}
 use Rattle.palm_cert.specs.Certificate.{numbers_of, steps_of}
 use Rattle.palm_cert.proofs.cited.Links.{linked_apart, same_place}
+use Rattle.palm_cert.proofs.cited.Logged.{owner_of}
 use Rattle.palm_cert.proofs.cited.Needed.{right_linked, steps_founded}
 use Rattle.palm_cert.proofs.cited.Numbers.{member_numbers, numbers_member}
 
@@ -37,11 +38,6 @@ link_between front [] r later linked = subst (λ (l : List Removal). IsLink l r)
 link_between front (s ∷ earlier) r later linked =
     subst (λ (l : List Removal). IsLink l r) (append_assoc front (s ∷ []) earlier) (link_between (front ++ s ∷ []) earlier r later linked.1)
 
-get_left : (ps qs : List Pair) (j : ℕ) (p : Pair) → slice_get ps j ≡ Some p → slice_get (ps ++ qs) j ≡ Some p
-get_left [] qs j p at = absurd (none-some p at)
-get_left (q ∷ ps) qs zero p at = at
-get_left (q ∷ ps) qs (suc j) p at = get_left ps qs j p at
-
 module _ (earlier : List Removal) (r : Removal) (later : List Removal) (linked : IsLinked (earlier ++ r ∷ later)) where
   -- the numbers of its reasons
   abbrev reason_numbers : List ℕ
@@ -50,8 +46,11 @@ module _ (earlier : List Removal) (r : Removal) (later : List Removal) (linked :
   -- a reason has a place among the earlier removals, which is its place among all
   place_of : (p : Pair) → Contains r.reasons p → (j : ℕ) × (slice_get (log_pairs earlier) j ≡ Some p) × (slice_get (log_pairs (earlier ++ r ∷ later)) j ≡ Some p)
   place_of p m =
-      let q = member_place (log_pairs earlier) p ((link_between [] earlier r later linked).reasons p m) in
-      (q.0, q.1, subst (λ (ps : List Pair). slice_get ps q.0 ≡ Some p) (sym (map-append (λ (s : Removal). s.pair) earlier (r ∷ later))) (get_left (log_pairs earlier) (log_pairs (r ∷ later)) q.0 p q.1))
+      let q = (link_between [] earlier r later linked).reasons p m in
+      let both = log_pairs earlier ++ log_pairs (r ∷ later) in
+      let whole : slice_get both q.0 ≡ Some p =
+      slice_get-get_or both q.0 p (omega (arith, q.1, length-append (log_pairs earlier) (log_pairs (r ∷ later)))) ∙ ap Some (get_or_append_left (log_pairs earlier) (log_pairs (r ∷ later)) p q.0 q.1 ∙ q.2) in
+      (q.0, slice_get-get_or (log_pairs earlier) q.0 p q.1 ∙ ap Some q.2, rw (map-append (λ (s : Removal). s.pair) earlier (r ∷ later)) whole)
 
   -- the number of a reason is below its own
   pub number_earlier : (k : ℕ) → Contains reason_numbers k → (1 ≤ k) × (k ≤ length earlier)
@@ -70,10 +69,9 @@ module _ (earlier : List Removal) (r : Removal) (later : List Removal) (linked :
   pub reason_numbered : (p : Pair) → Contains r.reasons p → Contains (pairs_at (log_pairs earlier) reason_numbers) p
   reason_numbered p m =
       let j = place_of p m in
-      let n = member_numbers 1 (earlier ++ r ∷ later) r.reasons j.0 p j.2 m in
-      let e : (1 + j.0) - 1 ≡ j.0 = omega arith in
-      let is : pair_at (log_pairs earlier) (1 + j.0) ≡ p = get_or_from_slice_get (log_pairs earlier) ((1 + j.0) - 1) p _ (ap (λ (i : ℕ). slice_get (log_pairs earlier) i) e ∙ j.1) in
-      member_same (pairs_at (log_pairs earlier) reason_numbers) (pair_at (log_pairs earlier) (1 + j.0)) p is
+      let n = member_numbers 1 (earlier ++ r ∷ later) r.reasons j.0 (1 + j.0) p j.2 m refl in
+      let e : j.0 ≡ (1 + j.0) - 1 = omega arith in
+      member_same (pairs_at (log_pairs earlier) reason_numbers) (pair_at (log_pairs earlier) (1 + j.0)) p (rw (← e) (get_or_from_slice_get (log_pairs earlier) j.0 p _ j.1))
       (member_map (pair_at (log_pairs earlier)) reason_numbers (1 + j.0) n)
 
   -- ---- right in a book
@@ -121,10 +119,10 @@ module _ (s : EngineState) (book : Contents) (is : IsBook book) (valid : IsValid
   pub step_owner : HasOwner
   step_owner =
       let o = right.owner in
-      let q = member_unmap user_at (filter (λ (c : BookCon). c.active) book.constraints) o (subst (λ (l : List Active). Contains l o) active right.posted) in
+      let q = owner_of book o (subst (λ (l : List Active). Contains l o) active right.posted) in
       record {
         owner = q.0;
-        listed = (filter_member (λ (c : BookCon). c.active) book.constraints q.0 q.1).0;
+        listed = q.1;
         by = ap (λ (a : Active). a.cid) q.2 ∙ right.named;
         lacks = lacks_behind earlier r later linked book s.initial s.active right q.0.con initial (ap (λ (a : Active). a.con) q.2);
       }

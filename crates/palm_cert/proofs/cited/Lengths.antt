@@ -14,7 +14,7 @@ use Rattle.palm_claim.specs.Statement.{IsStepNumber}
 use Rattle.palm_model.specs.Log.{Removal, log_pairs}
 use Rattle.palm_explain.specs.Needed.{pairs_with}
 use Rattle.palm_cert.specs.Certificate.{is_asked, numbers_from, numbers_of}
-use Rattle.palm_cert.proofs.cited.Links.{Apart, asked_member}
+use Rattle.palm_cert.proofs.cited.Links.{Apart, apart_passed, asked_member, pair_removal, passed_pair}
 use Rattle.palm_cert.proofs.cited.Numbers.{numbers_member}
 use Rattle.palm_cert.proofs.cited.Before.{range_has}
 
@@ -27,14 +27,6 @@ apart_short (p ∷ ps) qs apart inside =
     let later : (q : Pair) → Contains ps q → Contains (remove qs at.0) q = λ q m. member_remove qs at.0 p q at.1 (λ e. apart.0 (member_same ps q p (sym e) m)) (inside q (member_there p ps q m)) in
     let fewer = length-remove qs at.0 (slice_get_within qs at.0 p at.1) in
     omega (arith, fewer, apart_short ps (remove qs at.0) apart.1 later)
-
-apart_cond : (b : Bool) (p : Pair) (ps : List Pair) → (Contains ps p → ⊥) → Apart ps → Apart (cond b (p ∷ ps) ps)
-apart_cond true p ps fresh apart = (fresh, apart)
-apart_cond false p ps fresh apart = apart
-
-apart_filter : (t : Pair → Bool) (ps : List Pair) → Apart ps → Apart (filter t ps)
-apart_filter t [] apart = tt
-apart_filter t (p ∷ ps) apart = apart_cond (t p) p (filter t ps) (λ m. apart.0 (filter_member t ps p m).0) (apart_filter t ps apart.1)
 
 -- ---- the pairs of some variables
 
@@ -70,21 +62,23 @@ all_of variables = range_with_len 0 (length variables)
 
 -- ---- numbers of steps
 
-count_cond : (b : Bool) (n : ℕ) (ns : List ℕ) (p : Pair) (ps : List Pair) → length ns ≡ length ps → length (cond b (n ∷ ns) ns) ≡ length (cond b (p ∷ ps) ps)
-count_cond true n ns p ps e = omega (arith, e)
-count_cond false n ns p ps e = e
+count_cond : (b : Bool) (n : ℕ) (ns : List ℕ) (r : Removal) (rs : List Removal) → length ns ≡ length rs → length (cond b (n ∷ ns) ns) ≡ length (cond b (r ∷ rs) rs)
+count_cond true n ns r rs e = omega (arith, e)
+count_cond false n ns r rs e = e
 
-numbers_length : (n : ℕ) (steps : List Removal) (pairs : List Pair) → length (numbers_from n steps pairs) ≡ length (filter (is_asked pairs) (log_pairs steps))
+numbers_length : (n : ℕ) (steps : List Removal) (pairs : List Pair) → length (numbers_from n steps pairs) ≡ length (filter (λ r. is_asked pairs r.pair) steps)
 numbers_length n [] pairs = refl
 numbers_length n (r ∷ steps) pairs =
-    count_cond (is_asked pairs r.pair) n (numbers_from (n + 1) steps pairs) r.pair (filter (is_asked pairs) (log_pairs steps)) (numbers_length (n + 1) steps pairs)
+    count_cond (is_asked pairs r.pair) n (numbers_from (n + 1) steps pairs) r (filter (λ (s : Removal). is_asked pairs s.pair) steps) (numbers_length (n + 1) steps pairs)
 
 -- no more of them than pairs among which the reasons are
 pub numbers_few : (steps : List Removal) (reasons qs : List Pair) → Apart (log_pairs steps) → ((p : Pair) → Contains (log_pairs steps) p → Contains reasons p → Contains qs p) → length (numbers_of steps reasons) ≤ length qs
 numbers_few steps reasons qs apart inside =
-    let asked = filter (is_asked reasons) (log_pairs steps) in
-    let short = apart_short asked qs (apart_filter (is_asked reasons) (log_pairs steps) apart) (λ p m. let f = filter_member (is_asked reasons) (log_pairs steps) p m in inside p f.0 (asked_member reasons p f.1)) in
-    omega (arith, numbers_length 1 steps reasons, short)
+    let t = λ (r : Removal). is_asked reasons r.pair in
+    let short = apart_short (log_pairs (filter t steps)) qs (apart_passed t steps apart) (λ p m.
+    let r = pair_removal (filter t steps) p m in
+    inside p (passed_pair t steps p m) (member_same reasons r.0.pair p r.2 (asked_member reasons r.0.pair (filter_member t steps r.0 r.1).1))) in
+    omega (arith, numbers_length 1 steps reasons, short, length-map (filter t steps) (λ (r : Removal). r.pair))
 
 -- steps over the variables of a book have step numbers
 pub are_step_numbers : (variables : List BookVar) (steps : List Removal) (reasons : List Pair) → length variables ≤ MOST_VARIABLES → All (λ e. AreValues e.values) variables → Apart (log_pairs steps)

@@ -1,8 +1,8 @@
 -- What an engine with the book's variables and active constraints has removed is of the book.
-use Rattle.std.proofs.Common.{◌≡◌, ◌<◌, ℕ, zero, suc, Option, Some, List, [], ◌∷◌, ◌++◌, length, All, Contains, inl, inr, refl, sym, ap, ◌∙◌, subst}
+use Rattle.std.proofs.Common.{◌≡◌, ◌<◌, ℕ, Some, option_map, List, [], ◌∷◌, ◌++◌, length, map, filter, flat_map, All, Contains, inl, inr, refl, sym, ap, ◌∙◌, subst, append-nil}
 use Rattle.std.specs.Prelude.{slice_get}
 use Rattle.std.proofs.lemmas.List.Elements.{All-contains}
-use Rattle.std.proofs.lemmas.Option.{none-some, same_Some}
+use Rattle.std.proofs.lemmas.Option.{get_or_from_slice_get, same_Some, slice_get-map}
 use Rattle.std.proofs.lemmas.List.{length-map}
 use Rattle.palm_base.specs.declared.terms.Pair.{Pair}
 use Rattle.palm_base.specs.declared.terms.Cid.{Cid}
@@ -14,77 +14,71 @@ use Rattle.palm_model.specs.Log.Names.{by_itself}
 use Rattle.palm_model.specs.State.{EngineState, IsValid}
 use Rattle.palm_model.proofs.cited.Narrowing.{has_declared}
 use Rattle.palm_model.proofs.cited.Without.{length_without}
-use Rattle.palm_read.specs.Words.{spaced}
-use Rattle.palm_book.specs.Book.{Contents, BookVar, HasNumber, IsUser, active_of, initial_of, number_name, user_at, user_name}
-use Rattle.palm_lang.specs.Reply.{ended}
+use Rattle.palm_book.specs.Book.{Contents, BookVar, IsUser, active_of, initial_of, user_at}
 use Rattle.palm_explain.specs.Explanations.{log_bys, reasons_of}
 use Rattle.palm_book.specs.declared.book.BookCon.{BookCon}
 use Rattle.palm_book.proofs.cited.Any.{any_member}
 use Rattle.palm_claim.specs.declared.verdict.Claim.{Claim}
 use Rattle.palm_claim.specs.declared.verdict.Claim.TheVariants.{Gone, Conflict}
 use Rattle.palm_events.proofs.cited.Conflicts.{cids_active}
-use Rattle.palm_cert.specs.Certificate.{claim_var, numbers_of, step_line, step_words}
-use Rattle.palm_cert.specs.Needs.{CanClaim, IsNumbered, IsOfBook}
+use Rattle.palm_cert.specs.Certificate.{claim_var}
+use Rattle.palm_cert.specs.Needs.{CanClaim, IsNumbered, IsOfBook, removals_at}
 use Rattle.palm_cert.proofs.cited.Links.{pair_removal}
 use Rattle.palm_cert.proofs.cited.Numbers.{pair_at}
+use Rattle.palm_cert.proofs.cited.Stepped.{one_at}
 pub use Rattle.palm_claim.proofs.cited.ProvedSteps.{some_at as some_removal}
 
 -- an active constraint of the book is one of its constraints
+pub owner_of : (book : Contents) (a : Active) → Contains (active_of book) a → (c : BookCon) × Contains book.constraints c × (user_at c ≡ a)
+owner_of book a m =
+    let r = member_unmap user_at (filter (λ (c : BookCon). c.active) book.constraints) a m in
+    (r.0, (filter_member (λ (c : BookCon). c.active) book.constraints r.0 r.1).0, r.2)
+
 pub active_user : (book : Contents) (c : Cid) → IsActive (active_of book) c → IsUser book c
 active_user book c active =
-    let r = member_unmap user_at _ active.owner active.posted in
-    let k = filter_member (λ (d : BookCon). d.active) book.constraints r.0 r.1 in
+    let r = owner_of book active.owner active.posted in
     let e : User r.0.number ≡ c = ap (λ (a : Active). a.cid) r.2 ∙ active.named in
-    subst (IsUser book) e (any_member (λ (d : BookCon). d.number ≡ r.0.number) book.constraints r.0 k.0 refl)
+    subst (IsUser book) e (any_member (λ (d : BookCon). d.number ≡ r.0.number) book.constraints r.0 r.1 refl)
 
 pub user_numbered : (book : Contents) (c : Cid) → IsUser book c → IsNumbered c
 user_numbered book (Decide x) user = user
 user_numbered book (Not p) user = user
 user_numbered book (User n) user = tt
 
-pub numbered_user : (book : Contents) (by : Cid) (n : ℕ) → by ≡ User n → IsUser book by → HasNumber book n
-numbered_user book by n e user = subst (λ (c : Cid). IsUser book c) e user
-
 -- ---- the removal at a place
 
 pub by_of : (log : List Removal) (place : ℕ) (r : Removal) (by : Cid) → slice_get log place ≡ Some r → slice_get (log_bys log) place ≡ Some by → r.by ≡ by
-by_of [] place r by at there = absurd (none-some r at)
-by_of (s ∷ log) zero r by at there = ap (λ (z : Removal). z.by) (sym (same_Some s r at)) ∙ same_Some s.by by there
-by_of (s ∷ log) (suc place) r by at there = by_of log place r by at there
+by_of log place r by at there = same_Some r.by by (sym (slice_get-map (λ (s : Removal). s.by) log place ∙ ap (option_map (λ (s : Removal). s.by)) at) ∙ there)
 
 pub reasons_at : (log : List Removal) (place : ℕ) (r : Removal) → slice_get log place ≡ Some r → reasons_of log place ≡ r.reasons
-reasons_at [] place r at = absurd (none-some r at)
-reasons_at (s ∷ log) zero r at = ap (λ (z : Removal). z.reasons) (same_Some s r at)
-reasons_at (s ∷ log) (suc place) r at = reasons_at log place r at
+reasons_at log place r at =
+    get_or_from_slice_get (map (λ (s : Removal). s.reasons) log) place r.reasons [] (slice_get-map (λ (s : Removal). s.reasons) log place ∙ ap (option_map (λ (s : Removal). s.reasons)) at)
 
-module _ (book : Contents) (log : List Removal) (logged : All (IsOfBook book) log) (place : ℕ) (lt : place < length log) where
-  at_place : IsOfBook book (some_removal log place lt).0
-  at_place = All-contains (IsOfBook book) log (some_removal log place lt).0 logged (member_get log place (some_removal log place lt).0 (some_removal log place lt).1)
+pair_of : (log : List Removal) (place : ℕ) (r : Removal) (p : Pair) → slice_get log place ≡ Some r → slice_get (log_pairs log) place ≡ Some p → r.pair ≡ p
+pair_of log place r p at there = same_Some r.pair p (sym (pair_at log place r at) ∙ there)
 
-  pub user_at_place : (by : Cid) → slice_get (log_bys log) place ≡ Some by → IsUser book by
-  user_at_place by there =
+-- its text, by what is read there
+pub text_read : (f : Pair → Cid → List Pair → List ℕ) (log : List Removal) (place : ℕ) (pair : Pair) (by : Cid) → place < length log → slice_get (log_pairs log) place ≡ Some pair → slice_get (log_bys log) place ≡ Some by
+    → f pair by (reasons_of log place) ≡ flat_map (λ r. f r.pair r.by r.reasons) (removals_at log (place ∷ []))
+text_read f log place pair by lt there named =
+    let r = some_removal log place lt in
+    ap (λ (p : Pair). f p by (reasons_of log place)) (sym (pair_of log place r.0 pair r.1 there)) ∙ ap (λ (c : Cid). f r.0.pair c (reasons_of log place)) (sym (by_of log place r.0 by r.1 named))
+    ∙ ap (λ (ps : List Pair). f r.0.pair r.0.by ps) (reasons_at log place r.0 r.1)
+    ∙ sym (ap (λ (rs : List Removal). flat_map (λ (s : Removal). f s.pair s.by s.reasons) rs) (one_at log place r.0 r.1) ∙ append-nil (f r.0.pair r.0.by r.0.reasons))
+
+module _ (book : Contents) (By : Cid → Type 0) (log : List Removal) (logged : All (IsOfBook book By) log) (place : ℕ) (lt : place < length log) where
+  at_place : IsOfBook book By (some_removal log place lt).0
+  at_place = All-contains (IsOfBook book By) log (some_removal log place lt).0 logged (member_get log place (some_removal log place lt).0 (some_removal log place lt).1)
+
+  pub by_at_place : (by : Cid) → slice_get (log_bys log) place ≡ Some by → By by
+  by_at_place by there =
       let r = some_removal log place lt in
-      subst (λ (c : Cid). IsUser book c) (by_of log place r.0 by r.1 there) at_place.user
+      subst By (by_of log place r.0 by r.1 there) at_place.by
 
   pub variable_at : (p : Pair) → slice_get (log_pairs log) place ≡ Some p → p.var < length book.variables
-  variable_at p at =
+  variable_at p there =
       let r = some_removal log place lt in
-      subst (λ (q : Pair). q.var < length book.variables) (unique (slice_get (log_pairs log) place) r.0.pair p (pair_at log place r.0 r.1) at) at_place.variable
-    where
-      unique : (o : Option Pair) (q s : Pair) → o ≡ Some q → o ≡ Some s → q ≡ s
-      unique o q s e f = same_Some q s (sym e ∙ f)
-
--- the line of the step at a place, by what is read there
-pub step_read : (book : Contents) (steps log : List Removal) (place : ℕ) (r : Removal) (pair : Pair) (by : Cid) (n : ℕ) (numbers : List ℕ)
-    → slice_get log place ≡ Some r → slice_get (log_pairs log) place ≡ Some pair → slice_get (log_bys log) place ≡ Some by → by ≡ User n → numbers ≡ numbers_of steps (reasons_of log place)
-    → ended (spaced (step_words book.variables pair (number_name book.constraints n) numbers)) ≡ step_line book steps r
-step_read book steps log place r pair by n numbers at there named e is =
-    let same : pair ≡ r.pair = same_Some pair r.pair (sym there ∙ pair_at log place r at) in
-    let name : number_name book.constraints n ≡ user_name book.constraints r.by = ap (λ (c : Cid). user_name book.constraints c) (sym (by_of log place r by at named ∙ e)) in
-    let ks : numbers ≡ numbers_of steps r.reasons = is ∙ ap (λ (ps : List Pair). numbers_of steps ps) (reasons_at log place r at) in
-    ap (λ (p : Pair). ended (spaced (step_words book.variables p (number_name book.constraints n) numbers))) same
-    ∙ ap (λ (name : List ℕ). ended (spaced (step_words book.variables r.pair name numbers))) name
-    ∙ ap (λ (ks : List ℕ). ended (spaced (step_words book.variables r.pair (user_name book.constraints r.by) ks))) ks
+      subst (λ (q : Pair). q.var < length book.variables) (pair_of log place r.0 p r.1 there) at_place.variable
 
 -- ---- the whole log
 
@@ -95,23 +89,34 @@ declared_from initial active earlier (s ∷ rest) right r m = elim (member_cases
   | inr k ↦ declared_from initial active (earlier ++ s ∷ []) rest right.1 r k
 ]
 
--- the state has the variables and the active constraints of the book
+-- what was removed from the book's values was declared
+pub removed_has : (s : EngineState) (book : Contents) → IsValid s → s.initial ≡ initial_of book → (p : Pair) → Contains (log_pairs s.log) p → Has (initial_of book) p.var p.value
+removed_has s book valid initial p m =
+    let r = pair_removal s.log p m in
+    subst (λ (d : Domains). Has d p.var p.value) initial
+    (subst (λ (q : Pair). Has s.initial q.var q.value) r.2 (declared_from s.initial s.active [] s.log valid.founded r.0 r.1))
+
+-- domains of the book's variables
+pub as_long : (d : Domains) (book : Contents) → d ≡ initial_of book → length d ≡ length book.variables
+as_long d book e = ap (λ (f : Domains). length f) e ∙ length-map book.variables (λ (v : BookVar). v.values)
+
+-- the state has the variables of the book
+module _ (s : EngineState) (book : Contents) (valid : IsValid s) (initial : s.initial ≡ initial_of book) where
+  -- where what is active is named so
+  pub log_of_book : (By : Cid → Type 0) → ((c : Cid) → IsActive s.active c → By c) → All (IsOfBook book By) s.log
+  log_of_book By named = all_members (IsOfBook book By) s.log (λ r m. record {
+    variable = subst (λ (n : ℕ). r.pair.var < n) (as_long s.initial book initial) (has_declared s.initial r.pair.var r.pair.value (declared_from s.initial s.active [] s.log valid.founded r m));
+    by = named r.by (cids_active s.initial s.active s.log r.by valid.founded r m (by_itself r refl));
+  })
+
+-- and the active constraints
 module _ (s : EngineState) (book : Contents) (valid : IsValid s) (initial : s.initial ≡ initial_of book) (active : s.active ≡ active_of book) where
-  long : length s.initial ≡ length book.variables
-  long = ap (λ (d : Domains). length d) initial ∙ length-map book.variables (λ (e : BookVar). e.values)
-
-  of_book : (r : Removal) → Contains s.log r → IsOfBook book r
-  of_book r m = record {
-    variable = subst (λ (n : ℕ). r.pair.var < n) long (has_declared s.initial r.pair.var r.pair.value (declared_from s.initial s.active [] s.log valid.founded r m));
-    user = active_user book r.by (subst (λ (l : List Active). IsActive l r.by) active (cids_active s.initial s.active s.log r.by valid.founded r m (by_itself r refl)));
-  }
-
-  pub log_of_book : All (IsOfBook book) s.log
-  log_of_book = all_members (IsOfBook book) s.log of_book
+  pub users_logged : All (IsOfBook book (IsUser book)) s.log
+  users_logged = log_of_book s book valid initial (IsUser book) (λ c is. active_user book c (subst (λ (l : List Active). IsActive l c) active is))
 
   -- the claim is about a variable of the book
   pub claim_declared : (claim : Claim) → CanClaim s claim → claim_var claim < length book.variables
   claim_declared (Gone pair) can =
       let r = pair_removal s.log pair can in
-      subst (λ (q : Pair). q.var < length book.variables) r.2 (of_book r.0 r.1).variable
-  claim_declared (Conflict x) can = subst (λ (n : ℕ). x < n) (length_without s.initial (log_pairs s.log) ∙ long) can.exists
+      subst (λ (q : Pair). q.var < length book.variables) r.2 (All-contains (IsOfBook book (IsUser book)) s.log r.0 users_logged r.1).variable
+  claim_declared (Conflict x) can = subst (λ (n : ℕ). x < n) (length_without s.initial (log_pairs s.log) ∙ as_long s.initial book initial) can.exists

@@ -1,16 +1,11 @@
 -- Each line of a certificate says what was written.
-use Rattle.std.proofs.Common.{◌≡◌, ℕ, ◌≤◌, Bool, true, false, cond, List, [], ◌∷◌, ℤ, length, codes, filter, All, Any, Contains, inl, inr, refl, sym, ap, ◌∙◌, subst, arith, nat_eq}
-use Rattle.std.proofs.lemmas.Bool.{false≢true, eq-eqb}
-use Rattle.std.proofs.lemmas.List.{length-map}
-use Rattle.std.proofs.lemmas.List.Elements.{All-contains, All-head, All-tail}
+use Rattle.std.proofs.Common.{◌≡◌, ℕ, ◌≤◌, List, [], ◌∷◌, ℤ, length, codes, All, Contains, refl, ap, ◌∙◌, subst, arith}
+use Rattle.std.proofs.lemmas.List.Elements.{All-contains}
 use Rattle.std.proofs.lemmas.List.Sums.{AllPass-from_list_all}
 use Rattle.palm_base.specs.declared.terms.Pair.{Pair}
-use Rattle.palm_base.specs.declared.terms.Cid.{Cid}
-use Rattle.palm_base.specs.declared.terms.Cid.TheVariants.{User}
-use Rattle.palm_base.proofs.cited.Members.{filter_member, member_same, member_unmap}
-use Rattle.palm_book.specs.Book.{Contents, BookVar, IsBook, active_of, initial_of, name_of, number_name, user_at, user_name, values_at}
+use Rattle.palm_base.proofs.cited.Members.{filter_member, member_same}
+use Rattle.palm_book.specs.Book.{Contents, IsBook, active_of, initial_of, name_of, user_name, values_at}
 use Rattle.palm_book.specs.declared.book.BookCon.{BookCon}
-use Rattle.palm_book.proofs.cited.Any.{any_cases, any_member, any_none}
 use Rattle.palm_book.proofs.cited.WellFormed.{named_near}
 use Rattle.palm_claim.specs.Phrases.{header_of}
 use Rattle.palm_claim.specs.Statement.{IsStepNumber, Says}
@@ -20,7 +15,6 @@ use Rattle.palm_claim.specs.declared.statement.Statement.TheVariants.{Phrase}
 use Rattle.palm_claim.specs.declared.verdict.Claim.{Claim}
 use Rattle.palm_claim.specs.declared.verdict.Claim.TheVariants.{Gone, Conflict}
 use Rattle.palm_model.specs.Constraint.{IsWellFormed, scope}
-use Rattle.palm_model.specs.Domains.{Domains, Has}
 use Rattle.palm_model.specs.Limits.{IsValue}
 use Rattle.palm_model.specs.Log.{Active, Removal, log_pairs}
 use Rattle.palm_model.specs.State.{EngineState, IsValid, present}
@@ -37,12 +31,13 @@ use Rattle.palm_cert.specs.Needs.{CanClaim}
 use Rattle.palm_cert.specs.Readable.{AreReadable, claim_statement}
 use Rattle.palm_events.specs.Scoped.{HasScopedReasons}
 use Rattle.palm_cert.proofs.cited.Declared.{are_values, name_text, named_read, variable_says}
+use Rattle.palm_cert.proofs.cited.Earlier.{user_named}
 use Rattle.palm_cert.proofs.cited.Lengths.{are_step_numbers, numbers_few, over_few, over_member, pairs_over, within_book}
 use Rattle.palm_cert.proofs.cited.Links.{Apart, linked_apart, pair_logged, pair_removal}
-use Rattle.palm_cert.proofs.cited.Logged.{declared_from}
+use Rattle.palm_cert.proofs.cited.Logged.{as_long, owner_of, removed_has}
 use Rattle.palm_cert.proofs.cited.Needed.{right_linked, steps_founded}
 use Rattle.palm_cert.proofs.cited.Reached.{values_same}
-use Rattle.palm_cert.proofs.cited.Saying.{conflict_claim_length, conflict_claim_says, step_length, step_says, value_claim_length, value_claim_says}
+use Rattle.palm_cert.proofs.cited.Saying.{conflict_claim_says, step_length, step_says, value_claim_says}
 
 -- ---- the first and the last line
 
@@ -57,21 +52,6 @@ end_says : Says (codes "end") (Phrase End)
 end_says =
     let words = words_keyword (codes "end") refl words_none in
     (record { short = omega arith; says = refl; plain = words_plain (codes "end" ∷ []) (Keyword (codes "end") ∷ []) words }, words_spell (codes "end" ∷ []) (Keyword (codes "end") ∷ []) words, tt)
-
--- ---- the names of constraints
-
-name_cond : (b : Bool) (n : ℕ) (c : BookCon) (cs : List BookCon) → nat_eq c.number n ≡ b → IsNameText c.name → Any (λ d. d.number ≡ n) (c ∷ cs) → (Any (λ d. d.number ≡ n) cs → IsNameText (number_name cs n)) → IsNameText (cond b c.name (number_name cs n))
-name_cond true n c cs e text some later = text
-name_cond false n c cs e text some later = elim (any_cases (λ (d : BookCon). d.number ≡ n) c cs some) [
-  | inl same ↦ absurd (false≢true (sym e ∙ eq-eqb c.number n same))
-  | inr more ↦ later more
-]
-
-number_text : (cs : List BookCon) (n : ℕ) → All (λ c. IsNameText c.name) cs → Any (λ c. c.number ≡ n) cs → IsNameText (number_name cs n)
-number_text [] n names some = absurd (any_none (λ (c : BookCon). c.number ≡ n) some)
-number_text (c ∷ cs) n names some =
-    name_cond (nat_eq c.number n) n c cs refl (All-head (λ (d : BookCon). IsNameText d.name) c cs names) some
-    (number_text cs n (All-tail (λ (d : BookCon). IsNameText d.name) c cs names))
 
 -- ---- steps over the variables of a book
 
@@ -108,10 +88,7 @@ module _ (book : Contents) (is : IsBook book) (steps : List Removal) (apart : Ap
 -- what an engine with the book's variables removed was declared
 pub pair_declared : (s : EngineState) (book : Contents) → IsValid s → s.initial ≡ initial_of book → (p : Pair) → Contains (log_pairs s.log) p → Contains (values_at book.variables p.var) p.value
 pair_declared s book valid initial p m =
-    let r = pair_removal s.log p m in
-    let has : Has s.initial p.var p.value = subst (λ (q : Pair). Has s.initial q.var q.value) r.2 (declared_from s.initial s.active [] s.log valid.founded r.0 r.1) in
-    let same : Has (initial_of book) p.var p.value = subst (λ (d : Domains). Has d p.var p.value) initial has in
-    subst (λ (vs : List ℤ). Contains vs p.value) (values_same book.variables p.var) same
+    subst (λ (vs : List ℤ). Contains vs p.value) (values_same book.variables p.var) (removed_has s book valid initial p m)
 
 module _ (s : EngineState) (valid : IsValid s) (pairs : List Pair) where
   pub step_logged : (r : Removal) → Contains (steps_of s.log pairs) r → Contains s.log r
@@ -130,12 +107,6 @@ module _ (s : EngineState) (valid : IsValid s) (pairs : List Pair) where
 -- ---- the certificate of an engine with the book's constraints
 
 module _ (s : EngineState) (book : Contents) (is : IsBook book) (valid : IsValid s) (initial : s.initial ≡ initial_of book) (active : s.active ≡ active_of book) where
-  -- an active constraint is one of the book
-  owner_of : (a : Active) → Contains s.active a → (c : BookCon) × Contains book.constraints c × (user_at c ≡ a)
-  owner_of a m =
-      let r = member_unmap user_at (filter (λ (c : BookCon). c.active) book.constraints) a (subst (λ (list : List Active). Contains list a) active m) in
-      (r.0, (filter_member (λ (c : BookCon). c.active) book.constraints r.0 r.1).0, r.2)
-
   constraint_formed : (c : BookCon) → Contains book.constraints c → IsWellFormed (length book.variables) c.con
   constraint_formed c m = All-contains (λ (d : BookCon). IsWellFormed (length book.variables) d.con) book.constraints c is.formed m
 
@@ -146,10 +117,8 @@ module _ (s : EngineState) (book : Contents) (is : IsBook book) (valid : IsValid
     by_name : (r : Removal) → Contains (steps_of s.log pairs) r → IsNameText (user_name book.constraints r.by)
     by_name r m =
         let own = scoped r (step_logged s valid pairs r m) in
-        let c = owner_of own.owner own.posted in
-        let by : User c.0.number ≡ r.by = ap (λ (a : Active). a.cid) c.2 ∙ own.named in
-        subst (λ (cid : Cid). IsNameText (user_name book.constraints cid)) by
-        (number_text book.constraints c.0.number is.constraint_names (any_member (λ (d : BookCon). d.number ≡ c.0.number) book.constraints c.0 c.1 refl))
+        let c = owner_of book own.owner (subst (λ (list : List Active). Contains list own.owner) active own.posted) in
+        subst IsNameText (user_named book is c.0 c.1 r.by (ap (λ (a : Active). a.cid) c.2 ∙ own.named)) (constraint_text c.0 c.1)
 
     step_readable : (r : Removal) → Contains (steps_of s.log pairs) r → Says (spaced (step_words book.variables r.pair (user_name book.constraints r.by) (numbers_of (steps_of s.log pairs) r.reasons)))
         (Phrase (Step (name_of book.variables r.pair.var) r.pair.value (user_name book.constraints r.by) (numbers_of (steps_of s.log pairs) r.reasons)))
@@ -161,7 +130,7 @@ module _ (s : EngineState) (book : Contents) (is : IsBook book) (valid : IsValid
         let pair = pair_logged steps r m in
         let has = declared r.pair pair in
         let own = scoped r (step_logged s valid pairs r m) in
-        let c = owner_of own.owner own.posted in
+        let c = owner_of book own.owner (subst (λ (list : List Active). Contains list own.owner) active own.posted) in
         let formed : IsWellFormed (length book.variables) own.owner.con = subst (λ (a : Active). IsWellFormed (length book.variables) a.con) c.2 (constraint_formed c.0 c.1) in
         let short = step_short book is steps apart declared r by own.owner.con pair (by_name r m) formed (λ p k. (own.others p k).0) in
         step_says book.variables r.pair by (numbers_of steps r.reasons) (pair_name book is r.pair has) (by_name r m) (pair_value book is r.pair has) (reasons_numbered book is steps apart declared r.reasons) short
@@ -169,14 +138,11 @@ module _ (s : EngineState) (book : Contents) (is : IsBook book) (valid : IsValid
   claim_readable : (claim : Claim) → CanClaim s claim → Says (spaced (claim_words book.variables claim)) (claim_statement book.variables claim)
   claim_readable (Gone pair) can =
       let has = pair_declared s book valid initial pair can in
-      let named = pair_name book is pair has in
-      let value = pair_value book is pair has in
-      value_claim_says book.variables pair named value (omega (arith, value_claim_length book.variables pair named value))
+      value_claim_says book.variables pair (pair_name book is pair has) (pair_value book is pair has)
   claim_readable (Conflict x) can =
       let exists = can.exists in
-      let many : length (present s) ≡ length book.variables = length_without s.initial (log_pairs s.log) ∙ ap length initial ∙ length-map book.variables (λ (e : BookVar). e.values) in
-      let named = name_text book.variables x is.variable_names (omega (arith, exists, many)) in
-      conflict_claim_says book.variables x named (omega (arith, conflict_claim_length book.variables x named))
+      let many : length (present s) ≡ length book.variables = length_without s.initial (log_pairs s.log) ∙ as_long s.initial book initial in
+      conflict_claim_says book.variables x (name_text book.variables x is.variable_names (omega (arith, exists, many)))
 
   lines_readable : (claim : Claim) → CanClaim s claim → HasScopedReasons s → AreReadable book (steps_of s.log (claimed book claim)) claim
   lines_readable claim can scoped = record {

@@ -50,32 +50,16 @@ module _ (variables : List BookVar) where
       let pieces = step_pieces (name_of variables pair.var) pair.value by ks in
       (record { short = short; says = refl; plain = words_plain (step_words variables pair by ks) pieces words }, words_spell (step_words variables pair by ks) pieces words, (value, small))
 
-  words_value_claim : (pair : Pair) → IsNameText (name_of variables pair.var) → IsValue pair.value → Words 100 (claim_words variables (Gone pair)) (value_claim_pieces (name_of variables pair.var) pair.value)
-  words_value_claim pair named value =
-      words_weaker 100 (words_keyword (codes "claim") refl (words_name (name_of variables pair.var) named (words_number (lays_value pair.value (value_within pair.value value)) words_none))) (omega arith)
-
-  pub value_claim_length : (pair : Pair) → IsNameText (name_of variables pair.var) → IsValue pair.value → length (spaced (claim_words variables (Gone pair))) ≤ 100
-  value_claim_length pair named value =
-      words_short (claim_words variables (Gone pair)) (value_claim_pieces (name_of variables pair.var) pair.value) (words_value_claim pair named value)
-
-  pub value_claim_says : (pair : Pair) → IsNameText (name_of variables pair.var) → IsValue pair.value
-      → length (spaced (claim_words variables (Gone pair))) ≤ 65536 → Says (spaced (claim_words variables (Gone pair))) (Phrase (ValueClaim (name_of variables pair.var) pair.value))
-  value_claim_says pair named value short =
-      let words = words_value_claim pair named value in
+  pub value_claim_says : (pair : Pair) → IsNameText (name_of variables pair.var) → IsValue pair.value → Says (spaced (claim_words variables (Gone pair))) (Phrase (ValueClaim (name_of variables pair.var) pair.value))
+  value_claim_says pair named value =
+      let line = claim_words variables (Gone pair) in
       let pieces = value_claim_pieces (name_of variables pair.var) pair.value in
-      (record { short = short; says = refl; plain = words_plain (claim_words variables (Gone pair)) pieces words }, words_spell (claim_words variables (Gone pair)) pieces words, value)
+      let words : Words 100 line pieces = words_weaker 100 (words_keyword (codes "claim") refl (words_name (name_of variables pair.var) named (words_number (lays_value pair.value (value_within pair.value value)) words_none))) (omega arith) in
+      (record { short = omega (arith, words_short line pieces words); says = refl; plain = words_plain line pieces words }, words_spell line pieces words, value)
 
-  words_conflict_claim : (x : ℕ) → IsNameText (name_of variables x) → Words 100 (claim_words variables (Conflict x)) (conflict_claim_pieces (name_of variables x))
-  words_conflict_claim x named =
-      words_weaker 100 (words_keyword (codes "claim") refl (words_keyword (codes "conflict") refl (words_name (name_of variables x) named words_none))) (omega arith)
-
-  pub conflict_claim_length : (x : ℕ) → IsNameText (name_of variables x) → length (spaced (claim_words variables (Conflict x))) ≤ 100
-  conflict_claim_length x named =
-      words_short (claim_words variables (Conflict x)) (conflict_claim_pieces (name_of variables x)) (words_conflict_claim x named)
-
-  pub conflict_claim_says : (x : ℕ) → IsNameText (name_of variables x)
-      → length (spaced (claim_words variables (Conflict x))) ≤ 65536 → Says (spaced (claim_words variables (Conflict x))) (Phrase (ConflictClaim (name_of variables x)))
-  conflict_claim_says x named short =
-      let words = words_conflict_claim x named in
+  pub conflict_claim_says : (x : ℕ) → IsNameText (name_of variables x) → Says (spaced (claim_words variables (Conflict x))) (Phrase (ConflictClaim (name_of variables x)))
+  conflict_claim_says x named =
+      let line = claim_words variables (Conflict x) in
       let pieces = conflict_claim_pieces (name_of variables x) in
-      (record { short = short; says = refl; plain = words_plain (claim_words variables (Conflict x)) pieces words }, words_spell (claim_words variables (Conflict x)) pieces words, tt)
+      let words : Words 100 line pieces = words_weaker 100 (words_keyword (codes "claim") refl (words_keyword (codes "conflict") refl (words_name (name_of variables x) named words_none))) (omega arith) in
+      (record { short = omega (arith, words_short line pieces words); says = refl; plain = words_plain line pieces words }, words_spell line pieces words, tt)

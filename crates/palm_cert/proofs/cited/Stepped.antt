@@ -1,23 +1,26 @@
 -- The removals at rising places: where they are those that pairs need, they are the steps.
-use Rattle.std.proofs.Common.{◌≡◌, ℕ, zero, suc, ◌+◌, ◌-◌, ◌<◌, ◌≤◌, Bool, true, false, cond, Some, List, [], ◌∷◌, ◌++◌, length, take, drop, get_or, filter, flat_map, All, Contains, MatchResult, Result, inl, inr, refl, sym, ap, ◌∙◌, subst, append-nil, arith}
+use Rattle.std.proofs.Common.{◌≡◌, ℕ, zero, suc, ◌+◌, ◌-◌, ◌<◌, ◌≤◌, Bool, true, false, cond, Some, List, [], ◌∷◌, ◌++◌, length, take, drop, get_or, filter, flat_map, All, Contains, MatchResult, Result, Ok, Err, inl, inr, refl, sym, ap, ◌∙◌, subst, append-nil, arith}
 use Rattle.std.specs.Prelude.{slice_get}
 use Rattle.std.specs.List.Sorted.{IsBinarySearchResult}
 use Rattle.std.specs.Ordering.{nat_cmp}
 use Rattle.std.proofs.lemmas.Bool.{cases_lt}
 use Rattle.std.proofs.lemmas.Grind.{flat_map-append}
-use Rattle.std.proofs.lemmas.List.{take_more}
+use Rattle.std.proofs.lemmas.List.{get_or_default, take_more}
 use Rattle.std.proofs.lemmas.List.Sorted.{searched}
-use Rattle.std.proofs.lemmas.Option.{none-some, same_Some, slice_get_within}
+use Rattle.std.proofs.lemmas.Option.{none-some, same_Some, slice_get-get_or, slice_get_within}
+use Rattle.palm_base.specs.declared.terms.Cid.{Cid}
 use Rattle.palm_base.specs.declared.terms.Pair.{Pair}
-use Rattle.palm_base.proofs.cited.Members.{all_members, flat_map_member, member_cases, member_flat_map, member_here, member_nil, member_same, member_single, member_there}
+use Rattle.palm_base.proofs.cited.Members.{all_members, flat_map_member, member_flat_map, member_here, member_nil, member_same, member_single, member_there}
+use Rattle.palm_book.specs.Book.{Contents}
 use Rattle.palm_model.specs.Log.{Removal, log_pairs}
 use Rattle.palm_explain.specs.Explanations.{IsLinked}
 use Rattle.palm_explain.specs.Needed.{AreNeeded, Climbs}
 use Rattle.palm_cert.specs.Certificate.{asked, is_asked, steps_of}
-use Rattle.palm_cert.specs.Needs.{AreSteps, IsNumberOf, removals_at}
+use Rattle.palm_cert.specs.Needs.{AreSteps, IsNumberOf, IsOfBook, IsStepAt, removals_at}
 use Rattle.palm_cert.proofs.cited.Links.{Apart, apart_passed, asked_member, linked_apart, member_asked, pair_removal, reasons_steps, same_place}
 use Rattle.palm_cert.proofs.cited.Needed.{asked_needed, needed_asked}
-use Rattle.palm_cert.proofs.cited.Numbers.{Rising, first_number, pair_at, rest_number, rising_cond, rising_from, same_rising}
+use Rattle.palm_cert.proofs.cited.Before.{before_from}
+use Rattle.palm_cert.proofs.cited.Numbers.{pair_at, passed_place, place_passed, places_from, places_rise, same_rising}
 
 -- ---- one place
 
@@ -62,9 +65,6 @@ removals_more log places i place r lt at there =
 
 -- ---- texts
 
-pub text_one_at : (f : Removal → List ℕ) (log : List Removal) (place : ℕ) (r : Removal) → slice_get log place ≡ Some r → f r ≡ flat_map f (removals_at log (place ∷ []))
-text_one_at f log place r at = sym (ap (λ (rs : List Removal). flat_map f rs) (one_at log place r at) ∙ append-nil (f r))
-
 -- the text of the one at a place
 abbrev pub text_at : (Removal → List ℕ) → List Removal → ℕ → List ℕ
 text_at f log place = flat_map f (removals_at log (place ∷ []))
@@ -76,47 +76,7 @@ texts_at f log (place ∷ places) =
     ap (λ (rs : List Removal). flat_map f rs ++ flat_map (text_at f log) places) (append-nil here) ∙ ap (λ (t : List ℕ). flat_map f here ++ t) (texts_at f log places)
     ∙ sym (flat_map-append f here (removals_at log places))
 
--- ---- places by a test
-
-abbrev places_from : ℕ → (Removal → Bool) → List Removal → List ℕ
-places_from n t [] = []
-places_from n t (r ∷ log) = cond (t r) (n ∷ places_from (n + 1) t log) (places_from (n + 1) t log)
-
--- the removal that passes stands there
-record IsPassed (n : ℕ) (t : Removal → Bool) (log : List Removal) (i : ℕ) : Type 0 where
-  from : n ≤ i
-  removal : Removal
-  at : slice_get log (i - n) ≡ Some removal
-  passes : t removal ≡ true
-
-passed_later : (n : ℕ) (t : Removal → Bool) (r : Removal) (log : List Removal) (i : ℕ) → IsPassed (n + 1) t log i → IsPassed n t (r ∷ log) i
-passed_later n t r log i p =
-    let e : i - n ≡ suc (i - (n + 1)) = omega (arith, p.from) in
-    record { from = omega (arith, p.from); removal = p.removal; at = ap (λ (k : ℕ). slice_get (r ∷ log) k) e ∙ p.at; passes = p.passes }
-
-passed_cases : (n : ℕ) (t : Removal → Bool) (r : Removal) (log : List Removal) (i : ℕ) (ps : List ℕ) (b : Bool) → t r ≡ b → (Contains ps i → IsPassed (n + 1) t log i) → Contains (cond b (n ∷ ps) ps) i → IsPassed n t (r ∷ log) i
-passed_cases n t r log i ps true e later m = elim (member_cases n ps i m) [
-  | inl here ↦ let first : i - n ≡ 0 = omega (arith, here) in record { from = omega (arith, here); removal = r; at = ap (λ (j : ℕ). slice_get (r ∷ log) j) first; passes = e }
-  | inr k ↦ passed_later n t r log i (later k)
-]
-passed_cases n t r log i ps false e later m = passed_later n t r log i (later m)
-
-place_passed : (n : ℕ) (t : Removal → Bool) (log : List Removal) (i : ℕ) → Contains (places_from n t log) i → IsPassed n t log i
-place_passed n t [] i m = absurd (member_nil i m)
-place_passed n t (r ∷ log) i m = passed_cases n t r log i (places_from (n + 1) t log) (t r) refl (place_passed (n + 1) t log i) m
-
-passed_place : (n : ℕ) (t : Removal → Bool) (log : List Removal) (j : ℕ) (r : Removal) → slice_get log j ≡ Some r → t r ≡ true → Contains (places_from n t log) (n + j)
-passed_place n t [] j r at e = absurd (none-some r at)
-passed_place n t (s ∷ log) zero r at e =
-    let same : n ≡ n + 0 = omega arith in
-    member_same (places_from n t (s ∷ log)) n (n + 0) same (first_number (t s) n (places_from (n + 1) t log) (ap t (same_Some s r at) ∙ e))
-passed_place n t (s ∷ log) (suc j) r at e =
-    let same : (n + 1) + j ≡ n + suc j = omega arith in
-    member_same (places_from n t (s ∷ log)) ((n + 1) + j) (n + suc j) same (rest_number (t s) n ((n + 1) + j) (places_from (n + 1) t log) (passed_place (n + 1) t log j r at e))
-
-places_rise : (n : ℕ) (t : Removal → Bool) (log : List Removal) → Rising (places_from n t log)
-places_rise n t [] = tt
-places_rise n t (r ∷ log) = rising_cond (t r) n (places_from (n + 1) t log) (λ i m. let p = place_passed (n + 1) t log i m in let from = p.from in omega (arith, from)) (places_rise (n + 1) t log)
+-- ---- the steps
 
 flat_map_same : (f g : ℕ → List Removal) (ps : List ℕ) → ((i : ℕ) → Contains ps i → f i ≡ g i) → flat_map f ps ≡ flat_map g ps
 flat_map_same f g [] same = refl
@@ -128,12 +88,12 @@ are_cases n r log ps rs true rest = let e : n - n ≡ 0 = omega arith in ap (λ 
 are_cases n r log ps rs false rest = rest
 
 -- the removals at the places of those that pass are those that pass
-passed_are : (n : ℕ) (t : Removal → Bool) (log : List Removal) → flat_map (λ i. take 1 (drop (i - n) log)) (places_from n t log) ≡ filter t log
+passed_are : (n : ℕ) (t : Removal → Bool) (log : List Removal) → flat_map (λ i. take 1 (drop (i - n) log)) (places_from t n log) ≡ filter t log
 passed_are n t [] = refl
 passed_are n t (r ∷ log) =
-    are_cases n r log (places_from (n + 1) t log) (filter t log) (t r)
-    (flat_map_same (λ i. take 1 (drop (i - n) (r ∷ log))) (λ i. take 1 (drop (i - (n + 1)) log)) (places_from (n + 1) t log)
-    (λ i m. let from = (place_passed (n + 1) t log i m).from in let e : i - n ≡ suc (i - (n + 1)) = omega (arith, from) in ap (λ (k : ℕ). take 1 (drop k (r ∷ log))) e)
+    are_cases n r log (places_from t (n + 1) log) (filter t log) (t r)
+    (flat_map_same (λ i. take 1 (drop (i - n) (r ∷ log))) (λ i. take 1 (drop (i - (n + 1)) log)) (places_from t (n + 1) log)
+    (λ i m. let from = (place_passed t (n + 1) log i m).from in let e : i - n ≡ suc (i - (n + 1)) = omega (arith, from) in ap (λ (k : ℕ). take 1 (drop k (r ∷ log))) e)
     ∙ passed_are (n + 1) t log)
 
 -- ---- the places of what pairs need
@@ -142,23 +102,22 @@ module _ (log : List Removal) (pairs : List Pair) (places : List ℕ) (linked : 
   abbrev is_step : Removal → Bool
   is_step r = is_asked (asked log pairs) r.pair
 
-  places_are : places ≡ places_from 0 is_step log
+  places_are : places ≡ places_from is_step 0 log
   places_are =
-      same_rising places (places_from 0 is_step log) (rising_from places needed.climbs) (places_rise 0 is_step log)
+      same_rising places (places_from is_step 0 log) (before_from (λ (i j : ℕ). i < j) places needed.climbs) (places_rise is_step 0 log)
       (λ i m.
       let r = (needed.each i).0 m in
-      let e : 0 + i ≡ i = omega arith in
-      member_same (places_from 0 is_step log) (0 + i) i e (passed_place 0 is_step log i r.0 r.1 (member_asked (asked log pairs) r.0.pair (needed_asked log pairs linked r.0.pair r.2))))
+      passed_place is_step 0 log i i r.0 r.1 (member_asked (asked log pairs) r.0.pair (needed_asked log pairs linked r.0.pair r.2)) (omega arith))
       (λ i m.
-      let p = place_passed 0 is_step log i m in
-      let e : i - 0 ≡ i = omega arith in
-      (needed.each i).1 (p.removal, ap (λ (k : ℕ). slice_get log k) (sym e) ∙ p.at, asked_needed log pairs log (λ r k. k) p.removal.pair (asked_member (asked log pairs) p.removal.pair p.passes)))
+      let p = place_passed is_step 0 log i m in
+      let e : i ≡ i - 0 = omega arith in
+      (needed.each i).1 (p.member, ap (λ (k : ℕ). slice_get log k) e ∙ p.at, asked_needed log pairs log (λ r k. k) p.member.pair (asked_member (asked log pairs) p.member.pair p.passes)))
 
   -- they are those of the steps
   pub steps_found : removals_at log places ≡ steps_of log pairs
   steps_found =
       ap (λ (ps : List ℕ). removals_at log ps) places_are
-      ∙ flat_map_same (λ i. take 1 (drop i log)) (λ i. take 1 (drop (i - 0) log)) (places_from 0 is_step log) (λ i m. let e : i ≡ i - 0 = omega arith in ap (λ (k : ℕ). take 1 (drop k log)) e)
+      ∙ flat_map_same (λ i. take 1 (drop i log)) (λ i. take 1 (drop (i - 0) log)) (places_from is_step 0 log) (λ i m. let e : i ≡ i - 0 = omega arith in ap (λ (k : ℕ). take 1 (drop k log)) e)
       ∙ passed_are 0 is_step log
 
   pub step_stands : (i : ℕ) → Contains places i → (r : Removal) × (slice_get log i ≡ Some r)
@@ -169,13 +128,21 @@ module _ (log : List Removal) (pairs : List Pair) (places : List ℕ) (linked : 
 
 -- ---- steps
 
--- a place that is looked for among rising ones
-pub found_by_halves : (places : List ℕ) (place : ℕ) (r : Result ℕ ℕ) → Climbs places → IsBinarySearchResult (λ y. nat_cmp y place) places r
-    → MatchResult r (λ i. (i < length places) × (get_or places i 0 ≡ place)) (λ i. (i ≤ length places) × ((k : ℕ) → k < i → get_or places k 0 < place) × ((k : ℕ) → i ≤ k → k < length places → place < get_or places k 0))
-found_by_halves places place r climbs found = searched places place r found (λ i j le lt. elim (cases_lt i j) [
+climbs_on : (places : List ℕ) → Climbs places → (i j : ℕ) → i ≤ j → j < length places → get_or places i 0 ≤ get_or places j 0
+climbs_on places climbs i j le lt = elim (cases_lt i j) [
   | inl l ↦ let less = climbs i j 0 l lt in omega (arith, less)
   | inr ge ↦ let e : i ≡ j = omega (arith, le, ge) in let same = ap (λ (k : ℕ). get_or places k 0) e in omega (arith, same)
-])
+]
+
+-- a place that is looked for among rising ones
+pub found_by_halves : (places : List ℕ) (place : ℕ) (r : Result ℕ ℕ) → Climbs places → IsBinarySearchResult (λ y. nat_cmp y place) places r → MatchResult r (λ i. slice_get places i ≡ Some place) (λ i. Contains places place → ⊥)
+found_by_halves places place (Ok i) climbs found =
+    let at = searched places place (Ok i) found (climbs_on places climbs) in
+    slice_get-get_or places i 0 at.0 ∙ ap Some at.1
+found_by_halves places place (Err i) climbs found = λ m.
+    let none = searched places place (Err i) found (climbs_on places climbs) in
+    let is = get_or_default places m.0 0 place m.1 ∙ m.2 in
+    elim (cases_lt m.0 i) [ inl l ↦ let less = none.1 m.0 l in omega (arith, less, is) | inr ge ↦ let more = none.2 m.0 ge m.1 in omega (arith, more, is) ]
 
 module _ (log : List Removal) (places : List ℕ) (steps : AreSteps log places) where
   pub steps_apart : Apart (log_pairs (removals_at log places))
@@ -196,14 +163,16 @@ module _ (log : List Removal) (places : List ℕ) (steps : AreSteps log places) 
       let q = at_member log places r.0 r.1 in
       member_same places q.0 place (same_place (log_pairs log) (linked_apart log steps.linked) q.0 place p (pair_at log q.0 r.0 q.2 ∙ ap Some r.2) at) q.1
 
-  pub step_within : (place : ℕ) → Contains places place → place < length log
-  step_within place m = let r = step_stands log steps.pairs places steps.linked steps.needed place m in slice_get_within log place r.0 r.1
+  -- at each index stands the place of a step
+  pub step_placed : (book : Contents) (By : Cid → Type 0) → All (IsOfBook book By) log → (i : ℕ) → i < length places → IsStepAt book By log places (get_or places i 0)
+  step_placed book By logged i lt =
+      let m : Contains places (get_or places i 0) = (i, lt, get_or_default places i (get_or places i 0) 0 lt) in
+      let r = step_stands log steps.pairs places steps.linked steps.needed (get_or places i 0) m in
+      record { steps = steps; logged = logged; within = slice_get_within log (get_or places i 0) r.0 r.1; step = m }
 
-  pub number_found : (place k : ℕ) (p : Pair) → slice_get (log_pairs log) place ≡ Some p → Contains places place → 1 ≤ k → slice_get places (k - 1) ≡ Some place → IsNumberOf (removals_at log places) k p
-  number_found place k p at m positive there =
+  pub number_found : (place i : ℕ) (p : Pair) → slice_get (log_pairs log) place ≡ Some p → Contains places place → slice_get places i ≡ Some place → IsNumberOf (removals_at log places) (i + 1) p
+  number_found place i p at m there =
       let r = step_stands log steps.pairs places steps.linked steps.needed place m in
-      record {
-        positive = positive;
-        at = pair_at (removals_at log places) (k - 1) r.0 (nth_at log places (step_stands log steps.pairs places steps.linked steps.needed) (k - 1) place r.0 there r.1)
-            ∙ sym (pair_at log place r.0 r.1) ∙ at;
-      }
+      let back : i ≡ i + 1 - 1 = omega arith in
+      let same = pair_at (removals_at log places) i r.0 (nth_at log places (step_stands log steps.pairs places steps.linked steps.needed) i place r.0 there r.1) ∙ sym (pair_at log place r.0 r.1) ∙ at in
+      record { positive = omega arith; at = rw (← back) same }

@@ -1,6 +1,6 @@
 use Rattle.std.proofs.Common.{◌∙◌, List, Bool, true, ap}
 use Rattle.std.specs.Prelude.{slice_set}
-use Rattle.palm_cert.proofs.Cites.{cites_found, cites_missing}
+use Rattle.palm_cert.proofs.Marks.{cites_found, cites_missing}
 use Rattle.palm_cert.proofs.needs.cite.Goals as goal
 
 pub returns-in-Some-clause-cites : goal.returns-in-Some-clause-cites

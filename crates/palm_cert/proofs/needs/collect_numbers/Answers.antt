@@ -2,11 +2,10 @@ use Rattle.std.proofs.Common.{◌≡◌, ◌∙◌, ◌++◌, ◌∷◌, [], ◌
 use Rattle.std.proofs.lemmas.Option.{slice_get-get_or}
 use Rattle.palm_base.specs.declared.terms.Pair.{Pair}
 use Rattle.palm_base.proofs.cited.Members.{member_get}
-use Rattle.palm_explain.specs.Explanations.{reasons_of}
 use Rattle.palm_cert.specs.Certificate.{numbers_of}
 use Rattle.palm_cert.specs.Needs.{removals_at}
 use Rattle.palm_cert.proofs.cited.Logged.{reasons_at, some_removal}
-use Rattle.palm_cert.proofs.cited.Marked.{take_some}
+use Rattle.palm_cert.proofs.cited.Filtered.{take_some}
 use Rattle.palm_cert.proofs.cited.Numbers.{Collects, collected, collects_more}
 use Rattle.palm_cert.proofs.cited.Stepped.{member_at, reasons_found, steps_apart}
 use Rattle.palm_cert.proofs.needs.collect_numbers.Goals as goal

@@ -1,9 +1,7 @@
-use Rattle.std.proofs.Common.{Bool, arith}
-use Rattle.std.proofs.lemmas.Option.{get_or_from_slice_get, slice_get_within}
+use Rattle.std.proofs.Common.{Bool}
 use Rattle.palm_book.specs.declared.book.BookCon.{BookCon}
 use Rattle.palm_cert.specs.Certificate.{added_line}
-use Rattle.palm_cert.proofs.cited.Marked.{text_fails, text_if, text_passes, texts_passed}
-use Rattle.palm_lang.proofs.cited.Wrote.{wrote_all, wrote_more, wrote_none, wrote_part, wrote_text}
+use Rattle.palm_cert.proofs.cited.Filtered.{wrote_failed, wrote_passed, wrote_stopped}
 use Rattle.proof_write.proofs.declarations.write_constraints.Goals as goal
 use Rattle.proof_write.proofs.declarations.write_constraints.Goals.{then-entry+in_ok-write_added, else-entry}
 
@@ -12,33 +10,17 @@ active e = e.active
 
 pub returns-in_err-write_added : goal.returns-in_err-write_added
 returns-in_err-write_added g c =
-    let cs = c.args.book.now.constraints in
-    let line = added_line c.args.book.now.variables in
-    let k = c.loop-place.place in
-    let entry = c.constraint-entry.result.now in
-    let at = c.constraint-entry.ensures.at in
-    let here = text_passes line active entry _ c.if-entry.true (get_or_from_slice_get cs k entry entry at) in
-    wrote_text (texts_passed line active cs)
-    (wrote_part (text_if line active) cs k entry (slice_get_within cs k entry at) c.from_residual.ensures.1 c.loop-place.invariant (wrote_text here c.in_err-write_added.ensures))
+    let book = c.args.book.now in
+    wrote_stopped (added_line book.variables) active book.constraints c.loop-place.place c.constraint-entry.result.now c.constraint-entry.ensures.at c.if-entry.true c.from_residual.ensures.1 c.loop-place.invariant c.in_err-write_added.ensures
 
 pub loop-place-preserved : goal.loop-place-preserved
 loop-place-preserved g c =
-    let cs = c.args.book.now.constraints in
-    let line = added_line c.args.book.now.variables in
+    let book = c.args.book.now in
+    let line = added_line book.variables in
     let k = c.loop-place.place in
     let entry = c.constraint-entry.result.now in
     let at = c.constraint-entry.ensures.at in
-    let same = get_or_from_slice_get cs k entry entry at in
     elim c.if-entry.branch [
-      | then-entry+in_ok-write_added w ↦
-          rw w.writer-is (wrote_more (text_if line active) cs k entry (slice_get_within cs k entry at) c.loop-place.invariant (wrote_text (text_passes line active entry _ w.if-entry.true same) w.in_ok-write_added.ensures))
-      | else-entry w ↦
-          rw w.writer-is (wrote_more (text_if line active) cs k entry (slice_get_within cs k entry at) c.loop-place.invariant (wrote_text (text_fails line active entry _ w.if-entry.false same) (wrote_none _ tt)))
+      | then-entry+in_ok-write_added w ↦ rw w.writer-is (wrote_passed line active book.constraints k entry at w.if-entry.true c.loop-place.invariant w.in_ok-write_added.ensures)
+      | else-entry w ↦ rw w.writer-is (wrote_failed line active book.constraints k entry at w.if-entry.false c.loop-place.invariant)
     ]
-
-pub returns : goal.returns
-returns g c =
-    let cs = c.args.book.now.constraints in
-    let line = added_line c.args.book.now.variables in
-    wrote_text (texts_passed line active cs)
-    (wrote_all (text_if line active) cs c.loop-place.place (omega (arith, c.loop-place-test.false, c.constraints-place-end.ensures.count)) c.loop-place.invariant)

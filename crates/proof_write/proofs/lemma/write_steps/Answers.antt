@@ -1,15 +1,11 @@
-use Rattle.std.proofs.Common.{get_or}
-use Rattle.std.proofs.lemmas.List.{get_or_default}
 use Rattle.palm_cert.specs.Needs.{removals_at}
-use Rattle.palm_cert.proofs.cited.Stepped.{text_at, texts_at}
+use Rattle.palm_cert.proofs.cited.Stepped.{step_placed, text_at, texts_at}
 use Rattle.palm_lang.proofs.cited.Wrote.{wrote_all, wrote_more, wrote_part, wrote_text}
 use Rattle.proof_run.specs.Lemma.{step_line}
 use Rattle.proof_write.proofs.lemma.write_steps.Goals as goal
 
-pub write_step-requires-clause-step : goal.write_step-requires-clause-step
-write_step-requires-clause-step g c =
-    let steps = c.args.steps.now in
-    (c.loop-place.place-index, c.loop-place-test.true, get_or_default steps c.loop-place.place-index (get_or steps c.loop-place.place-index 0) 0 c.loop-place-test.true)
+pub write_step-requires : goal.write_step-requires
+write_step-requires g c = step_placed c.args.log.now.log c.args.steps.now c.requires.steps c.args.book.now _ c.requires.logged c.loop-place.place-index c.loop-place-test.true
 
 pub returns-in_err-write_step : goal.returns-in_err-write_step
 returns-in_err-write_step g c undone are =

@@ -1,12 +1,12 @@
 use Rattle.std.proofs.Common.{◌<◌, ◌++◌, ◌∙◌, ℕ, List, All, length, flat_map, refl, sym, ap, subst, append_assoc}
 use Rattle.palm_base.specs.declared.terms.Pair.{Pair}
+use Rattle.palm_cert.proofs.cited.Logged.{log_of_book}
 use Rattle.palm_explain.specs.Needed.{AreNeeded, pairs_with}
 use Rattle.palm_lang.proofs.cited.Wrote.{wrote_front, wrote_nothing, wrote_text, wrote_then, wrote_within}
-use Rattle.palm_model.specs.Log.{Removal}
 use Rattle.palm_search.specs.Calls.{search_state}
 use Rattle.proof_run.specs.Lemma.{held_decisions, lemma_line, step_line, wipe_line, wiped_by}
-use Rattle.proof_write.specs.Fitting.{IsWritable}
-use Rattle.proof_write.proofs.Fitting.{decisions_declared, emptied_declared, emptied_values, log_writable}
+use Rattle.proof_write.specs.Fitting.{IsNamed}
+use Rattle.proof_write.proofs.Fitting.{decisions_declared, emptied_declared, emptied_values}
 use Rattle.proof_write.proofs.Lemmas.{lemma_made}
 use Rattle.proof_write.proofs.lemma.write_text_of_lemma.Goals as goal
 
@@ -27,19 +27,17 @@ write_steps-requires-clause-steps g c =
 
 pub write_steps-requires-clause-logged : goal.write_steps-requires-clause-logged
 write_steps-requires-clause-logged g c =
-    subst (λ (log : List Removal). All (IsWritable c.args.book.now) log) (sym c.log-log.ensures)
-    (log_writable c.args.book.now (search_state c.args.engine.now.state c.args.search.now) c.requires.fits c.store.ensures.valid)
+    rw c.log-log.ensures (log_of_book c.args.engine.now.state c.args.book.now c.store.ensures.valid c.requires.fits.initial (IsNamed c.args.book.now) c.requires.fits.users)
 
 pub returns-in_err-write_front-clause-lemma : goal.returns-in_err-write_front-clause-lemma
 returns-in_err-write_front-clause-lemma g c undone x are empty =
     let book = c.args.book.now in
     let s = c.args.engine.now.state in
     let held = c.args.held.now in
-    let first = lemma_line book.variables (held_decisions c.args.search.now.decisions held) in
     let second = flat_map (step_line book undone (wiped_by s x)) (wiped_by s x) in
     let third = wipe_line book.variables x in
     let same = ap (λ (ds : List Pair). lemma_line book.variables (held_decisions ds held)) c.decisions.ensures in
-    wrote_text (sym (append_assoc first second third)) (wrote_front (second ++ third) c.from_residual.ensures.1 (wrote_text same c.in_err-write_front.ensures))
+    wrote_front {T = Unit {0}} third c.from_residual.ensures.1 (wrote_front second refl (wrote_text same c.in_err-write_front.ensures))
 
 pub returns-in_err-needed-clause-lemma : goal.returns-in_err-needed-clause-lemma
 returns-in_err-needed-clause-lemma g c undone x are empty =

@@ -5,7 +5,6 @@ use Rattle.palm_events.proofs.cited.Reasons.{reasons_right}
 use Rattle.palm_lang.specs.declared.stop.WriteStop.TheVariants.{NoMemory}
 use Rattle.palm_search.specs.Breaking.{BreaksOff}
 use Rattle.palm_search.specs.Calls.{SearchView}
-use Rattle.palm_search.specs.Following.{GuideFollows, Moment}
 use Rattle.palm_search.specs.Machine.{state_of}
 use Rattle.palm_search.specs.Stopping.BreaksOffBy.{by_last_settling, by_run}
 use Rattle.palm_search.proofs.cited.Breaking.{broken_at_end, broken_leaves, searches_leaves}
@@ -19,10 +18,7 @@ use Rattle.proof_write.proofs.Running.{accepted_at, behind_end, cut_off, ended_q
 use Rattle.proof_write.proofs.proving.prove_by.Given as given
 use Rattle.proof_write.proofs.proving.prove_by.Goals as goal
 
--- the guide's own relations, and the order's
-abbrev guiding : (g : given.Over) → Moment → Option g.row.G.Denot → Option g.row.G.Denot → Type 0
-guiding g = GuideFollows g.G.Guide.answers g.G.Guide.hears g.G.Guide.state
-
+-- the order's own relations
 abbrev ordering : (g : given.Over) → Hearing → Option g.row.O.Denot → Option g.row.O.Denot → Type 0
 ordering g = OrderFollows g.O.Order.answers g.O.Order.hears g.O.Order.state
 
@@ -81,7 +77,7 @@ returns-in_err-settle g c =
     let cut = interrupted_on (is_some e.order.now) e n t refl close.keeps c.in_err-settle.ensures.err in
     let broken = broken_at_end guided ordered c.args.budget s turns c.in_ok-end.end (state_of e) n.engine.now.state t.engine.now.state ran.ok.by.run close.withdraws
     (interrupted_filters (is_some e.order.now) n.engine.now t.engine.now cut) in
-    let quiet = ended_quietly book guided ordered c.args.budget s turns (g.K.Sink.state c.args.out.now) (g.K.Sink.state c.run-end.new.out) c.in_ok-end.end result stops (behind_end ran.ok) ran.counted ran.sink in
+    let quiet = ended_quietly book guided ordered c.args.budget s turns (g.K.Sink.state c.args.out.now) (g.K.Sink.state c.run-end.new.out) c.in_ok-end.end result stops (behind_end ran.ok) ran.stops.counted ran.stops.sink in
     record {
       ok = search rules;
       holds = search rules;
@@ -126,8 +122,8 @@ returns g c =
       err = tt;
       stopped = tt;
       front = tt;
-      counted = ran.counted;
-      sink = ran.sink;
+      counted = ran.stops.counted;
+      sink = ran.stops.sink;
       gives = record {
         leaves = searches_leaves reasons_right guided ordered c.args.budget s turns end t.engine.now.state t.search.now end users run.ran.before searches settle.valid
             (ap (λ (v : SearchView). v.decisions) settle.search ∙ close.decisions);

@@ -14,13 +14,12 @@ use Rattle.palm_search.proofs.cited.Running.{fewer_left, fresh_has, interrupted_
 use Rattle.palm_search.proofs.cited.Stopping.{cut_first_by, cut_here_by, cut_settling_by, cut_undoing_by, decision_stops, order_silent, order_stops}
 use Rattle.proof_run.specs.SoFar.Follows.{a_lemma, an_end}
 use Rattle.proof_write.specs.Numbers.{AreNumbers}
-use Rattle.proof_write.specs.declared.notes.Notes.{Notes}
 use Rattle.proof_write.specs.declared.numbers.LemmaNumbers.{LemmaNumbers}
 use Rattle.proof_write.proofs.Fitting.{book_users}
-use Rattle.proof_write.proofs.Running.{HasArgued, Stops, argued_alike, argued_deciding, argued_undoing, declaring_stops, left_by, lemma_here, lemma_written, proving_ends, proving_fits, proving_goes_on, proving_starts, proving_stops, stopped_quietly, stopped_with, stops_here, text_here, turn_stops, undoing_stops}
+use Rattle.proof_write.proofs.Running.{HasArgued, argued_deciding, argued_undoing, declaring_stops, left_by, lemma_here, lemma_written, proving_ends, proving_fits, proving_goes_on, proving_starts, proving_stops, stopped_quietly, stopped_with, stops_here, text_here, turn_stops, undoing_stops}
 use Rattle.proof_write.proofs.proving.run.Given as given
 use Rattle.proof_write.proofs.proving.run.Goals as goal
-use Rattle.proof_write.proofs.proving.run.Goals.{After-from_residual-in_err-note_last-in-Undo, After-settle-in-loop-notes, in-Decide+in_ok-decide-in-Decide, in-Undo+in_ok-write_lemma-in-Undo+in_ok-undo_latest-in-Undo+in_ok-note_last-in-Undo}
+use Rattle.proof_write.proofs.proving.run.Goals.{After-settle-in-loop-notes, in-Decide+in_ok-decide-in-Decide, in-Undo+in_ok-write_lemma-in-Undo+in_ok-undo_latest-in-Undo+in_ok-note_last-in-Undo}
 
 -- the guide's own relations, and the order's
 abbrev guiding : (g : given.Over) → Moment → Option g.row.G.Denot → Option g.row.G.Denot → Type 0
@@ -59,12 +58,12 @@ returns-in_err-settle-clause-stopped g c =
     let settle = c.settle.ensures in
     on_err _ c.from_residual-in_err-settle.result (by_first_settling (ap (λ (v : SearchView). v.journal) (settle.search ∙ c.requires.fresh)) settle.guide (order_stops a.order.now n.order.now a.engine.now n.engine.now c.in_err-settle.ensures.err))
 
-pub returns-in_err-settle-clause-front : goal.returns-in_err-settle-clause-front
-returns-in_err-settle-clause-front g c =
+pub returns-in_err-settle-clause-stops : goal.returns-in_err-settle-clause-stops
+returns-in_err-settle-clause-stops g c =
     let a = c.args.machine.now in
     let n = c.settle.new.self in
-    (declaring_stops c.args.book.now (is_some a.guide.now) (is_some a.order.now) c.args.budget a.engine.now.state n.search.now (g.K.Sink.state c.args.out.now) (g.K.Sink.state c.write_declarations.new.out) NoMemory
-    c.from_residual-in_err-settle.result (stopped_with _ _ c.from_residual-in_err-settle.ensures.1) (c.settle.ensures.search ∙ c.requires.fresh) (stopped_quietly _ _ _ c.in_ok-write_declarations.ensures)).front
+    declaring_stops c.args.book.now (is_some a.guide.now) (is_some a.order.now) c.args.budget a.engine.now.state n.search.now (g.K.Sink.state c.args.out.now) (g.K.Sink.state c.write_declarations.new.out) NoMemory
+    c.from_residual-in_err-settle.result (stopped_with _ _ c.from_residual-in_err-settle.ensures.1) (c.settle.ensures.search ∙ c.requires.fresh) (stopped_quietly _ _ _ c.in_ok-write_declarations.ensures)
 
 pub returns-in_err-settle-clause-ran : goal.returns-in_err-settle-clause-ran
 returns-in_err-settle-clause-ran g c =
@@ -96,10 +95,10 @@ returns-in_err-end-clause-stopped g c =
     on_err _ c.from_residual-in_err-end.result
     (cut_here_by a.guide.now m.guide.now m.guide.now a.order.now m.order.now c.args.budget a.engine.now.state m.engine.now.state m.engine.now.state m.search.now m.search.now (left_by c.loop-notes.invariant.proving) refl refl (stops_silent refl))
 
-pub returns-in_err-end-clause-front : goal.returns-in_err-end-clause-front
-returns-in_err-end-clause-front g c =
+pub returns-in_err-end-clause-stops : goal.returns-in_err-end-clause-stops
+returns-in_err-end-clause-stops g c =
     let m = c.loop-notes.machine in
-    (stops_here c.loop-notes.invariant.proving m.search.now c.from_residual-in_err-end.result (stopped_with _ _ c.from_residual-in_err-end.ensures.1) refl).front
+    stops_here c.loop-notes.invariant.proving m.search.now c.from_residual-in_err-end.result (stopped_with _ _ c.from_residual-in_err-end.ensures.1) refl
 
 pub returns-in_err-decide-in-Decide-clause-stopped : goal.returns-in_err-decide-in-Decide-clause-stopped
 returns-in_err-decide-in-Decide-clause-stopped g c =
@@ -113,9 +112,9 @@ returns-in_err-decide-in-Decide-clause-stopped g c =
 pub returns-in_err-decide-in-Decide-clause-ran : goal.returns-in_err-decide-in-Decide-clause-ran
 returns-in_err-decide-in-Decide-clause-ran g c = has_run_on c.store-store.ensures.valid c.loop-notes.invariant.runs c.decide.ensures.keeps
 
-pub returns-in_err-decide-in-Decide-clause-front : goal.returns-in_err-decide-in-Decide-clause-front
-returns-in_err-decide-in-Decide-clause-front g c =
-    (stops_here c.loop-notes.invariant.proving c.decide.new.self.search.now c.from_residual-in_err-decide-in-Decide.result (stopped_with _ _ c.from_residual-in_err-decide-in-Decide.ensures.1) c.in_err-decide-in-Decide.ensures.err.1).front
+pub returns-in_err-decide-in-Decide-clause-stops : goal.returns-in_err-decide-in-Decide-clause-stops
+returns-in_err-decide-in-Decide-clause-stops g c =
+    stops_here c.loop-notes.invariant.proving c.decide.new.self.search.now c.from_residual-in_err-decide-in-Decide.result (stopped_with _ _ c.from_residual-in_err-decide-in-Decide.ensures.1) c.in_err-decide-in-Decide.ensures.err.1
 
 -- ---- the end
 
@@ -135,14 +134,14 @@ returns-in_err-write_end-in-Ended-clause-stopped g c =
     on_err _ c.from_residual-in_err-write_end-in-Ended.result
     (cut_here_by a.guide.now m.guide.now m.guide.now a.order.now m.order.now c.args.budget a.engine.now.state m.engine.now.state m.engine.now.state m.search.now m.search.now (left_by c.loop-notes.invariant.proving) refl refl (stops_silent refl))
 
-pub returns-in_err-write_end-in-Ended-clause-front : goal.returns-in_err-write_end-in-Ended-clause-front
-returns-in_err-write_end-in-Ended-clause-front g c =
+pub returns-in_err-write_end-in-Ended-clause-stops : goal.returns-in_err-write_end-in-Ended-clause-stops
+returns-in_err-write_end-in-Ended-clause-stops g c =
     let m = c.loop-notes.machine in
     let proving = c.loop-notes.invariant.proving in
     let ends = subst (IsNext c.args.budget m.engine.now.state m.search.now) c.in-Ended.is c.in_ok-end.ensures in
     let w = c.in_err-write_end-in-Ended.ensures proving.argued.undone proving.numbered in
-    (proving_stops proving m.search.now.journal [] w.0 (g.K.Sink.state c.write_end.new.out) c.in_err-write_end-in-Ended.field-0.0 c.from_residual-in_err-write_end-in-Ended.result
-    (stopped_with _ _ c.from_residual-in_err-write_end-in-Ended.ensures.1) (sym (append-nil m.search.now.journal)) (omega arith) (an_end c.in-Ended.end ends w.1) w.2).front
+    proving_stops proving m.search.now.journal [] w.0 (g.K.Sink.state c.write_end.new.out) c.in_err-write_end-in-Ended.field-0.0 c.from_residual-in_err-write_end-in-Ended.result
+    (stopped_with _ _ c.from_residual-in_err-write_end-in-Ended.ensures.1) (sym (append-nil m.search.now.journal)) (omega arith) (an_end c.in-Ended.end ends w.1) w.2
 
 pub returns-in-Ended-clause-ok : goal.returns-in-Ended-clause-ok
 returns-in-Ended-clause-ok g c =
@@ -165,17 +164,17 @@ returns-in_err-write_lemma-in-Undo-clause-stopped g c =
     on_err _ c.from_residual-in_err-write_lemma-in-Undo.result
     (cut_here_by a.guide.now m.guide.now m.guide.now a.order.now m.order.now c.args.budget a.engine.now.state m.engine.now.state m.engine.now.state m.search.now m.search.now (left_by c.loop-notes.invariant.proving) refl refl (stops_silent refl))
 
-pub returns-in_err-write_lemma-in-Undo-clause-front : goal.returns-in_err-write_lemma-in-Undo-clause-front
-returns-in_err-write_lemma-in-Undo-clause-front g c =
+pub returns-in_err-write_lemma-in-Undo-clause-stops : goal.returns-in_err-write_lemma-in-Undo-clause-stops
+returns-in_err-write_lemma-in-Undo-clause-stops g c =
     let m = c.loop-notes.machine in
     let proving = c.loop-notes.invariant.proving in
     let next = subst (IsNext c.args.budget m.engine.now.state m.search.now) c.in-Undo.is c.in_ok-end.ensures in
     let conflict = c.in-Undo.conflict in
     let now = g.K.Sink.state c.write_lemma.new.out in
     let stop = c.in_err-write_lemma-in-Undo.field-0.0 in
-    (proving_stops proving m.search.now.journal [] (text_here proving conflict next.1.var) now stop c.from_residual-in_err-write_lemma-in-Undo.result (stopped_with _ _ c.from_residual-in_err-write_lemma-in-Undo.ensures.1)
+    proving_stops proving m.search.now.journal [] (text_here proving conflict next.1.var) now stop c.from_residual-in_err-write_lemma-in-Undo.result (stopped_with _ _ c.from_residual-in_err-write_lemma-in-Undo.ensures.1)
     (sym (append-nil m.search.now.journal)) (omega arith) (a_lemma conflict next.0 next.2 (lemma_here proving conflict next.1))
-    (lemma_written proving conflict c.as_slice.result.now next.1 now (Err stop) c.as_slice.ensures c.in_err-write_lemma-in-Undo.ensures.lemma)).front
+    (lemma_written proving conflict c.as_slice.result.now next.1 now (Err stop) c.as_slice.ensures c.in_err-write_lemma-in-Undo.ensures.lemma)
 
 -- ---- memory ran out behind it
 
@@ -192,16 +191,16 @@ returns-in_err-undo_latest-in-Undo-clause-stopped g c =
 pub returns-in_err-undo_latest-in-Undo-clause-ran : goal.returns-in_err-undo_latest-in-Undo-clause-ran
 returns-in_err-undo_latest-in-Undo-clause-ran g c = has_run_on c.store-store.ensures.valid c.loop-notes.invariant.runs c.undo_latest.ensures.keeps
 
-pub returns-in_err-undo_latest-in-Undo-clause-front : goal.returns-in_err-undo_latest-in-Undo-clause-front
-returns-in_err-undo_latest-in-Undo-clause-front g c =
+pub returns-in_err-undo_latest-in-Undo-clause-stops : goal.returns-in_err-undo_latest-in-Undo-clause-stops
+returns-in_err-undo_latest-in-Undo-clause-stops g c =
     let m = c.loop-notes.machine in
     let proving = c.loop-notes.invariant.proving in
     let next = subst (IsNext c.args.budget m.engine.now.state m.search.now) c.in-Undo.is c.in_ok-end.ensures in
     let conflict = c.in-Undo.conflict in
     let now = g.K.Sink.state c.write_lemma.new.out in
-    (undoing_stops proving conflict c.undo_latest.new.self.engine.now.state c.undo_latest.new.self.search.now (text_here proving conflict next.1.var) now c.from_residual-in_err-undo_latest-in-Undo.result
+    undoing_stops proving conflict c.undo_latest.new.self.engine.now.state c.undo_latest.new.self.search.now (text_here proving conflict next.1.var) now c.from_residual-in_err-undo_latest-in-Undo.result
     (stopped_with _ _ c.from_residual-in_err-undo_latest-in-Undo.ensures.1) c.in_err-undo_latest-in-Undo.ensures.err (a_lemma conflict next.0 next.2 (lemma_here proving conflict next.1))
-    (lemma_written proving conflict c.as_slice.result.now next.1 now (Ok tt) c.as_slice.ensures c.in_ok-write_lemma-in-Undo.ensures.lemma)).front
+    (lemma_written proving conflict c.as_slice.result.now next.1 now (Ok tt) c.as_slice.ensures c.in_ok-write_lemma-in-Undo.ensures.lemma)
 
 pub returns-in_err-note_last-in-Undo-clause-stopped : goal.returns-in_err-note_last-in-Undo-clause-stopped
 returns-in_err-note_last-in-Undo-clause-stopped g c =
@@ -219,11 +218,8 @@ returns-in_err-note_last-in-Undo-clause-stopped g c =
 pub returns-in_err-note_last-in-Undo-clause-ran : goal.returns-in_err-note_last-in-Undo-clause-ran
 returns-in_err-note_last-in-Undo-clause-ran g c = has_run_on c.store-store.ensures.valid c.loop-notes.invariant.runs c.undo_latest.ensures.keeps
 
--- what was written then
-noted : (g : given.Over) (c : After-from_residual-in_err-note_last-in-Undo g)
-    → Stops c.args.book.now (is_some c.args.machine.now.guide.now) (is_some c.args.machine.now.order.now) c.args.budget c.args.machine.now.engine.now.state c.undo_latest.new.self.search.now.journal (g.K.Sink.state c.args.out.now) (g.K.Sink.state c.write_lemma.new.out)
-    c.from_residual-in_err-note_last-in-Undo.result
-noted g c =
+pub returns-in_err-note_last-in-Undo-clause-stops : goal.returns-in_err-note_last-in-Undo-clause-stops
+returns-in_err-note_last-in-Undo-clause-stops g c =
     let m = c.loop-notes.machine in
     let proving = c.loop-notes.invariant.proving in
     let next = subst (IsNext c.args.budget m.engine.now.state m.search.now) c.in-Undo.is c.in_ok-end.ensures in
@@ -232,18 +228,6 @@ noted g c =
     let done = c.in_ok-undo_latest-in-Undo.ensures.ok in
     turn_stops proving (TurnUndo done.0 conflict) c.undo_latest.new.self.search.now (text_here proving conflict next.1.var) now c.from_residual-in_err-note_last-in-Undo.result (stopped_with _ _ c.from_residual-in_err-note_last-in-Undo.ensures.1) done.1.journal
     (a_lemma conflict next.0 next.2 (lemma_here proving conflict next.1)) (lemma_written proving conflict c.as_slice.result.now next.1 now (Ok tt) c.as_slice.ensures c.in_ok-write_lemma-in-Undo.ensures.lemma)
-
-pub returns-in_err-note_last-in-Undo-clause-front : goal.returns-in_err-note_last-in-Undo-clause-front
-returns-in_err-note_last-in-Undo-clause-front g c =
-    (noted g (goal.at.returns-in_err-note_last-in-Undo-clause-front g c).After-from_residual-in_err-note_last-in-Undo).front
-
-pub returns-in_err-note_last-in-Undo-clause-counted : goal.returns-in_err-note_last-in-Undo-clause-counted
-returns-in_err-note_last-in-Undo-clause-counted g c =
-    (noted g (goal.at.returns-in_err-note_last-in-Undo-clause-counted g c).After-from_residual-in_err-note_last-in-Undo).counted
-
-pub returns-in_err-note_last-in-Undo-clause-sink : goal.returns-in_err-note_last-in-Undo-clause-sink
-returns-in_err-note_last-in-Undo-clause-sink g c =
-    (noted g (goal.at.returns-in_err-note_last-in-Undo-clause-sink g c).After-from_residual-in_err-note_last-in-Undo).sink
 
 -- ---- the settling after a turn
 
@@ -262,7 +246,7 @@ argued g c =
     elim c.match-branch-4.branch [
       | in-Decide+in_ok-decide-in-Decide w ↦
           let done = w.in_ok-decide-in-Decide.ensures in
-          argued_alike (λ i. (w.machine-is i).engine.now) (λ i. (w.machine-is i).search.now) (λ i. (w.machine-is i).guide.now) (ap (λ (n : Notes). n.numbers) w.notes-is) (ap g.K.Sink.state w.out-is)
+          rw (w.machine-is, w.notes-is, w.out-is)
           (argued_deciding answers hears state c.args.budget book m.engine.now _ m.search.now _ m.guide.now _ _ can proving.argued c.loop-notes.notes.numbers (g.K.Sink.state c.loop-notes.out) w.in_ok-decide-in-Decide.field-0 w.in-Decide.is done.ok done.keeps.decisions done.keeps.quiet.counts done.keeps.quiet.stays proving.numbered)
       | in-Undo+in_ok-write_lemma-in-Undo+in_ok-undo_latest-in-Undo+in_ok-note_last-in-Undo w ↦
           let done = w.in_ok-undo_latest-in-Undo.ensures in
@@ -270,7 +254,7 @@ argued g c =
           let next = subst (IsNext c.args.budget m.engine.now.state m.search.now) w.in-Undo.is can in
           let now = g.K.Sink.state w.write_lemma.new.out in
           let numbered = subst (λ (n : LemmaNumbers). AreNumbers proving.argued.undone n) (sym w.in_ok-write_lemma-in-Undo.ensures.numbers) proving.numbered in
-          argued_alike (λ i. (w.machine-is i).engine.now) (λ i. (w.machine-is i).search.now) (λ i. (w.machine-is i).guide.now) (ap (λ (n : Notes). n.numbers) w.notes-is) (ap g.K.Sink.state w.out-is)
+          rw (w.machine-is, w.notes-is, w.out-is)
           (argued_undoing answers hears state c.args.budget book m.engine.now _ m.search.now _ m.guide.now _ _ can proving.argued _ (g.K.Sink.state c.loop-notes.out) conflict (text_here proving conflict next.1.var) now w.in-Undo.is (lemma_here proving conflict next.1)
           (lemma_written proving conflict w.as_slice.result.now next.1 now (Ok tt) w.as_slice.ensures w.in_ok-write_lemma-in-Undo.ensures.lemma) done.ok done.told done.keeps.decisions done.keeps.quiet.counts done.keeps.quiet.stays
           (w.in_ok-note_last-in-Undo.ensures proving.argued.undone m.search.now.journal done.ok.0 conflict (w.journal.ensures ∙ done.ok.1.journal) numbered))
@@ -319,26 +303,12 @@ returns-in_err-settle-2-clause-stopped g c =
     (cut_settling_by a.guide.now m.guide.now t.guide.now a.order.now m.order.now n.order.now c.args.budget a.engine.now.state m.engine.now.state m.search.now taken.turn t.engine.now.state n.engine.now.state
     t.search.now (left_by so_far.proving) taken.left takes taken.step (order_stops m.order.now n.order.now t.engine.now n.engine.now (broken_on m t n (quiet g at) c.in_err-settle-2.ensures.err))))
 
-pub returns-in_err-settle-2-clause-front : goal.returns-in_err-settle-2-clause-front
-returns-in_err-settle-2-clause-front g c =
-    let at = (goal.at.returns-in_err-settle-2-clause-front g c).After-settle-in-loop-notes in
+pub returns-in_err-settle-2-clause-stops : goal.returns-in_err-settle-2-clause-stops
+returns-in_err-settle-2-clause-stops g c =
+    let at = (goal.at.returns-in_err-settle-2-clause-stops g c).After-settle-in-loop-notes in
     let turned = argued g at in
     rw c.settle-in-loop-notes.ensures.search (turn_stops c.loop-notes.invariant.proving turned.taken.turn c.match-branch-4.machine.search.now turned.more (g.K.Sink.state c.match-branch-4.out) c.from_residual-in_err-settle-2.result (stopped_with _ _ c.from_residual-in_err-settle-2.ensures.1)
-    turned.taken.takes.journal turned.follows turned.writes).front
-
-pub returns-in_err-settle-2-clause-counted : goal.returns-in_err-settle-2-clause-counted
-returns-in_err-settle-2-clause-counted g c =
-    let at = (goal.at.returns-in_err-settle-2-clause-counted g c).After-settle-in-loop-notes in
-    let turned = argued g at in
-    (turn_stops c.loop-notes.invariant.proving turned.taken.turn c.match-branch-4.machine.search.now turned.more (g.K.Sink.state c.match-branch-4.out) c.from_residual-in_err-settle-2.result (stopped_with _ _ c.from_residual-in_err-settle-2.ensures.1)
-    turned.taken.takes.journal turned.follows turned.writes).counted
-
-pub returns-in_err-settle-2-clause-sink : goal.returns-in_err-settle-2-clause-sink
-returns-in_err-settle-2-clause-sink g c =
-    let at = (goal.at.returns-in_err-settle-2-clause-sink g c).After-settle-in-loop-notes in
-    let turned = argued g at in
-    (turn_stops c.loop-notes.invariant.proving turned.taken.turn c.match-branch-4.machine.search.now turned.more (g.K.Sink.state c.match-branch-4.out) c.from_residual-in_err-settle-2.result (stopped_with _ _ c.from_residual-in_err-settle-2.ensures.1)
-    turned.taken.takes.journal turned.follows turned.writes).sink
+    turned.taken.takes.journal turned.follows turned.writes)
 
 pub returns-in_err-settle-2-clause-ran : goal.returns-in_err-settle-2-clause-ran
 returns-in_err-settle-2-clause-ran g c =
