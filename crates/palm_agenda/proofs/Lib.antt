@@ -5,6 +5,7 @@ pub mod Clearing
 pub mod Flagged
 pub mod Opening
 pub mod Joined
+pub mod Runs
 pub mod Rows
 pub mod Woken
 pub mod Heeding

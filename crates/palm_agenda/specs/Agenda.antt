@@ -1,7 +1,8 @@
 -- What an agenda holds: the connected constraints with their marks, and the ids of those that wait to be revised.
-use Rattle.std.specs.Prelude.{◌≡◌, ℕ, ℤ, ◌<◌, ◌≤◌, ◌⊎◌, if◌then◌else◌, Bool, not, Some, List, [], ◌∷◌, ◌++◌, length, map, filter, All, Contains, nat_eq, nat_lt, slice_get, slice_set, replicate}
+use Rattle.std.specs.Prelude.{◌≡◌, ℕ, ℤ, ◌+◌, ◌%◌, ◌^◌, ◌<◌, ◌≤◌, ◌⊎◌, if◌then◌else◌, Bool, not, Some, List, [], ◌∷◌, ◌++◌, length, map, filter, All, Contains, nat_eq, nat_lt, slice_get, slice_set, replicate}
 use Rattle.std.specs.List.{list_any}
 use Rattle.palm_base.specs.declared.terms.Cid.{Cid}
+use Rattle.palm_base.specs.declared.terms.Cid.TheVariants.{User}
 use Rattle.palm_base.specs.Order.{Rises, StandsAt, cid_before, same_cid}
 use Rattle.palm_model.specs.Log.{is_named}
 use Rattle.palm_model.specs.State.{without_cid}
@@ -40,6 +41,10 @@ pub record IsConnected (connected : List Connected) (cid : Cid) : Type 0 where
 -- a constraint that was taken stands where it is told
 abbrev pub IsStanding : List Connected → Taken → Type 0
 IsStanding connected taken = StandsAt (λ (d : Connected). d.cid) connected taken.at taken.cid
+
+-- each user's constraint stands so far behind its number, in words that wrap around
+abbrev pub IsRun : List Connected → ℕ → Type 0
+IsRun connected lag = (n place : ℕ) → StandsAt (λ (d : Connected). d.cid) connected place (User n) → (lag + n) % 2 ^ 64 ≡ place
 
 -- a constraint over the variable is connected under the id
 pub record IsOver (connected : List Connected) (x : ℕ) (cid : Cid) : Type 0 where

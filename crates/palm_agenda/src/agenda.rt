@@ -5,7 +5,7 @@ ghost use Rattle.palm_base.specs.Tells.{Tells};
 ghost use Rattle.palm_base.specs.declared.terms.Cid.{Cid as CidTerm};
 ghost use Rattle.palm_base.specs.Order.{Rises, cid_before, IsPartedAt};
 ghost use Rattle.palm_model.specs.State.{without_cid};
-ghost use Rattle.palm_agenda.specs.Agenda.{Connected, HasPlace, IsConnected, IsFormed, IsOver, IsStanding, Takes, TakesClear, changed_among, changed_at, index_within, marked_whole, mark_others, mark_own, connected_cids, unmarked, with_connected, without_connected};
+ghost use Rattle.palm_agenda.specs.Agenda.{Connected, HasPlace, IsConnected, IsFormed, IsOver, IsRun, IsStanding, Takes, TakesClear, changed_among, changed_at, index_within, marked_whole, mark_others, mark_own, connected_cids, unmarked, with_connected, without_connected};
 ghost use Rattle.palm_agenda.specs.declared.mark.Mark.TheVariants.{Clear};
 ghost use Rattle.palm_agenda.specs.declared.loss.Loss.{Loss as LossTerm};
 ghost use Rattle.palm_agenda.specs.Heard.{IsHearing};
@@ -93,12 +93,27 @@ fn place_near(connections: &Connections, lag: &mut usize, cid: &Cid) -> usize
     place
 }
 
-/// Makes the constraint pending, and marks these places of it, as seen from the variable. It is looked for by the lag,
-/// and it is heard how it heeds losses of the variable.
+/// The place of a connected constraint: that of a user is counted, where the numbers of users leave none out.
+#[inline(always)]
+fn place_by(connections: &Connections, run: &Option<usize>, lag: &mut usize, cid: &Cid) -> usize
+    requires rising { Rises (connected_cids connections.now) }
+    requires run { IfSome run.now (IsRun connections.now) }
+    requires there { IsConnected connections.now cid.now }
+    ensures { IsPartedAt (λ d. cid_before d.cid cid.now) connections.now result }
+{
+    match (run, cid) {
+        (Some(run), Cid::User(number)) => run.wrapping_add(*number as usize),
+        _ => place_near(connections, lag, cid),
+    }
+}
+
+/// Makes the constraint pending, and marks these places of it, as seen from the variable. It is heard how it heeds losses
+/// of the variable.
 #[inline(always)]
 fn wake_named(
     connections: &mut Connections,
     pending: &mut Flags,
+    run: &Option<usize>,
     lag: &mut usize,
     heard: &mut Heard,
     cid: &Cid,
@@ -107,6 +122,7 @@ fn wake_named(
 )
     requires rising { Rises (connected_cids connections.old) }
     requires flags { length pending.old.flags ≡ length connections.old }
+    requires run { IfSome run.now (IsRun connections.old) }
     requires over { IsOver connections.old var.now cid.now }
     requires hearing { IsHearing heard.old places.now }
     ensures marks { connections.new ≡ map (changed_at cid.now (mark_places places.now var.now)) connections.old }
@@ -119,7 +135,7 @@ fn wake_named(
     ensures more { (l : LossTerm) → is_open heard.new.still l ≡ false
         → is_open heard.old.still l ≡ false }
 {
-    let place = place_near(connections, lag, cid);
+    let place = place_by(connections, run, lag, cid);
     let heed = connections.at(place).heed_for(places, var);
     heard.hear(heed, places);
     connections.mark(place, places, var, &heard.change);
@@ -157,26 +173,43 @@ fn wake_each(
     ensures flags { length pending.new.flags ≡ length pending.old.flags }
     ensures covers { (d : Connected) → Contains connections.old d → Contains cids.now d.cid → Covers result places.now (heed_of var.now d.scope d.heeds) }
 {
+    let run = connections.run();
     let mut lag = *known;
     let mut heard = Heard::new(places);
     for cid in cids {
-        wake_named(connections, pending, &mut lag, &mut heard, cid, places, var);
+        wake_named(
+            connections,
+            pending,
+            &run,
+            &mut lag,
+            &mut heard,
+            cid,
+            places,
+            var,
+        );
     }
     *known = lag;
     heard.still
 }
 
-/// Makes the constraint pending. It is looked for by the lag.
+/// Makes the constraint pending.
 #[inline(always)]
-fn raise_named(connections: &Connections, pending: &mut Flags, lag: &mut usize, cid: &Cid)
+fn raise_named(
+    connections: &Connections,
+    pending: &mut Flags,
+    run: &Option<usize>,
+    lag: &mut usize,
+    cid: &Cid,
+)
     requires rising { Rises (connected_cids connections.now) }
+    requires run { IfSome run.now (IsRun connections.now) }
     requires flags { length pending.old.flags ≡ length connections.now }
     requires there { IsConnected connections.now cid.now }
     ensures pending { (c : CidTerm) → Contains (flagged (connected_cids connections.now) pending.new.flags) c
         ↔ (Contains (flagged (connected_cids connections.now) pending.old.flags) c ⊎ (c ≡ cid.now)) }
     ensures flags { length pending.new.flags ≡ length pending.old.flags }
 {
-    let place = place_near(connections, lag, cid);
+    let place = place_by(connections, run, lag, cid);
     pending.raise(place);
 }
 
@@ -190,9 +223,10 @@ fn raise_each(connections: &Connections, pending: &mut Flags, known: &mut usize,
         ↔ (Contains (flagged (connected_cids connections.now) pending.old.flags) c ⊎ Contains cids.now c) }
     ensures flags { length pending.new.flags ≡ length pending.old.flags }
 {
+    let run = connections.run();
     let mut lag = *known;
     for cid in cids {
-        raise_named(connections, pending, &mut lag, cid);
+        raise_named(connections, pending, &run, &mut lag, cid);
     }
     *known = lag;
 }

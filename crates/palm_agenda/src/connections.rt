@@ -1,9 +1,10 @@
 //! The connected constraints.
-ghost use Rattle.std.specs.Prelude.{◌≡◌, ◌-◌, ◌^◌, ◌<◌, ◌≤◌, true, false, [], length, Contains, OnErr, OnOk, slice_index_or, slice_set};
+ghost use Rattle.std.specs.Prelude.{◌≡◌, ◌+◌, ◌-◌, ◌^◌, ◌<◌, ◌≤◌, ℕ, true, false, [], length, Contains, IfNone, IfSome, OnErr, OnOk, Some, slice_get, slice_index_or, slice_set};
 ghost use Rattle.std.specs.List.{insert, remove};
 ghost use Rattle.palm_base.specs.Tells.{Tells};
+ghost use Rattle.palm_base.specs.declared.terms.Cid.TheVariants.{User};
 ghost use Rattle.palm_base.specs.Order.{Rises, StandsAt, cid_before, IsPartedAt};
-ghost use Rattle.palm_agenda.specs.Agenda.{Connected, connected_cids, unmarked};
+ghost use Rattle.palm_agenda.specs.Agenda.{Connected, IsRun, connected_cids, unmarked};
 ghost use Rattle.palm_agenda.specs.Heard.{ChangesAt};
 ghost use Rattle.palm_agenda.specs.Losses.{heed_of};
 ghost use Rattle.palm_agenda.specs.Places.{mark_places};
@@ -50,6 +51,57 @@ fn place_in(part: &[Connection], cid: &Cid) -> usize
     ensures { IsPartedAt (λ d. cid_before d.cid cid.now) part.now result }
 {
     part.partition_point(|connection| connection.cid().is_before(cid))
+}
+
+/// The number of a user.
+#[inline(always)]
+fn number_of(cid: &Cid) -> Option<u32>
+    ensures some { IfSome result (λ number. cid.now ≡ User number) }
+    ensures none { IfNone result ((number : ℕ) → cid.now ≡ User number → ⊥) }
+{
+    match cid {
+        Cid::User(number) => Some(*number),
+        Cid::Decide(_) | Cid::Not(_) => None,
+    }
+}
+
+/// The number of the user's constraint at the place, where one stands there.
+#[inline(always)]
+fn number_at(part: &[Connection], place: usize) -> Option<u32>
+    ensures { IfSome result (λ number. slice_get (connected_cids part.now) place ≡ Some (User number)) }
+{
+    number_of(&part.get(place)?.cid())
+}
+
+/// The number of the first of the constraints, where they are users' and their numbers leave none out.
+#[inline(always)]
+fn first_of_run(users: &[Connection]) -> Option<u32>
+    requires { Rises (connected_cids users.now) }
+    ensures { IfSome result (λ first. (k n : ℕ) → slice_get (connected_cids users.now) k ≡ Some (User n) → n ≡ first + k) }
+{
+    let first = number_at(users, 0)?;
+    let place = users.len().checked_sub(1)?;
+    let last = number_at(users, place)?;
+    if last as usize == first as usize + place {
+        Some(first)
+    } else {
+        None
+    }
+}
+
+/// Whether none of the constraints is a user's: the last one is not.
+#[inline(always)]
+fn has_no_user(front: &[Connection]) -> bool
+    requires { Rises (connected_cids front.now) }
+    ensures { result ≡ true → (k n : ℕ) → slice_get (connected_cids front.now) k ≡ Some (User n) → ⊥ }
+{
+    let Some(connection) = front.last() else {
+        return true;
+    };
+    match number_of(&connection.cid()) {
+        Some(_) => false,
+        None => true,
+    }
 }
 
 impl Connections {
@@ -104,6 +156,19 @@ impl Connections {
             return place;
         }
         place + place_in(&self.users, cid)
+    }
+
+    /// How far behind its number each user's constraint stands, where their numbers leave none out. It wraps around.
+    #[inline(always)]
+    pub(crate) fn run(&self) -> Option<usize>
+        requires { Rises (connected_cids self.now) }
+        ensures { IfSome result (IsRun self.now) }
+    {
+        if !has_no_user(&self.front) {
+            return None;
+        }
+        let first = first_of_run(&self.users)?;
+        Some(self.front.len().wrapping_sub(first as usize))
     }
 
     /// Puts a constraint in at the place. Without memory nothing changes.

@@ -8,6 +8,7 @@ use Rattle.palm_agenda.specs.Open.{Covers}
 use Rattle.palm_agenda.specs.Places.{mark_places}
 use Rattle.palm_agenda.proofs.cited.Keeping.{changed_none, heeds_more, keeps_among, keeps_places, marked_more, none_put, over_changed, put_all_set, put_set, rises_changed}
 use Rattle.palm_agenda.proofs.Opening.{covers_more}
+use Rattle.palm_agenda.proofs.Runs.{run_kept}
 use Rattle.palm_agenda.proofs.agenda.wake_each.Goals as goal
 
 pub loop-cid-init : goal.loop-cid-init
@@ -30,6 +31,12 @@ wake_named-requires-clause-flags c =
     c.loop-cid.invariant.flags ∙ c.requires.flags
     ∙ sym (length-map c.args.connections.now (changed_among (take c.loop-cid.cid-index c.args.cids.now) (mark_places c.args.places.now c.args.var.now)))
     ∙ ap length (sym c.loop-cid.invariant.marks)
+
+pub wake_named-requires-clause-run : goal.wake_named-requires-clause-run
+wake_named-requires-clause-run c =
+    run_kept (changed_among (take c.loop-cid.cid-index c.args.cids.now) (mark_places c.args.places.now c.args.var.now))
+    (keeps_among (take c.loop-cid.cid-index c.args.cids.now) (mark_places c.args.places.now c.args.var.now) (keeps_places c.args.places.now c.args.var.now))
+    c.args.connections.now c.loop-cid.connections c.loop-cid.invariant.marks c.run-run.result c.run-run.ensures
 
 pub wake_named-requires-clause-over : goal.wake_named-requires-clause-over
 wake_named-requires-clause-over c =
