@@ -52,3 +52,7 @@ clear_walked f active owner r clear =
           subst (λ d. IsSupported d owner.con p.var p.value) (sym e) (clear_supported f active owner p.var r clear over p.value (subst (λ d. Has d p.var p.value) e has)));
       again = refl;
     }
+
+pub clear_none : (f : Filtering) (active : List Active) (owner : Active) (r : IsRevising f active owner) (clear : IsClear f owner.cid) → 0 ≡ (clear_walked f active owner r clear).removed
+unfolding clear_walked
+clear_none f active owner r clear = refl

@@ -1,5 +1,5 @@
 -- What holds while a constraint is being revised, and what its walk over some of its pairs does.
-use Rattle.std.specs.Prelude.{◌≡◌, ℕ, zero, suc, ◌+◌, ◌-◌, ◌≤◌, ℤ, min, Bool, true, false, Option, None, IfSome, is_some, List, [], ◌∷◌, ◌++◌, Contains}
+use Rattle.std.specs.Prelude.{◌≡◌, ℕ, zero, suc, ◌+◌, ◌-◌, ◌<◌, ◌≤◌, ℤ, min, Bool, true, false, Option, None, Some, IfSome, is_some, List, [], ◌∷◌, ◌++◌, Contains}
 use Rattle.palm_base.specs.declared.terms.Pair.{Pair}
 use Rattle.palm_base.specs.declared.terms.Cid.{Cid}
 use Rattle.palm_base.specs.declared.limits.TheConstants.{LAST_COUNT}
@@ -8,7 +8,7 @@ use Rattle.palm_model.specs.Domains.{Has}
 use Rattle.palm_model.specs.Support.{IsSupported}
 use Rattle.palm_model.specs.Log.{Active}
 use Rattle.palm_model.specs.State.{EngineState, IsValid, IsEmptyAt, IsSettled, AllFilled, present}
-use Rattle.palm_agenda.specs.Agenda.{Takes}
+use Rattle.palm_agenda.specs.Agenda.{Takes, TakesClear}
 use Rattle.palm_engine.specs.Settling.{Walks, IsDue, HasReached, walk_order, rested}
 use Rattle.palm_engine.specs.declared.settle.Settle.{Settle}
 use Rattle.palm_engine.specs.declared.settle.Settle.TheVariants.{Settled, Empty, Stopped}
@@ -102,6 +102,21 @@ pub record TakesNext (limit : Option ℕ) (ordered : Bool) (ran : ℕ) (before a
   pub log : after.log ≡ before.log
   pub empty : after.empty ≡ before.empty
   pub checks : after.checks ≡ before.checks
+
+-- how many revisions the limit still allows
+abbrev pub most_left : Option ℕ → ℕ → ℕ
+most_left None ran = LAST_COUNT - ran
+most_left (Some limit) ran = limit - ran
+
+-- where no order is asked and no domain is empty, the first pending constraints were taken that have no mark, as far as the limit
+-- allows it, and are counted as revisions
+pub record PassesClear (limit : Option ℕ) (ordered : Bool) (ran : ℕ) (before after : Filtering) (count : ℕ) : Type 0 where
+  pub passed : ℕ
+  pub takes : TakesClear before.agenda after.agenda (most_left limit ran) passed
+  pub counted : count ≡ ran + passed
+  pub free : 0 < passed → (ordered ≡ false) × (before.empty ≡ None)
+  pub bounded : IfSome limit (λ most. most ≤ LAST_COUNT)
+  pub rest : after ≡ record before { agenda = after.agenda }
 
 -- no constraint is taken where a domain is empty, the limit is reached or none is pending
 pub data TakesNone (limit : Option ℕ) (ran : ℕ) (f : Filtering) : Type 0 where

@@ -24,7 +24,7 @@ use crate::justification::Justification;
 use crate::posted::{Posted, decisions_of, place_of};
 use crate::posting::{insert, take_out, take_out_resting};
 use crate::reasons::ReasonRoom;
-use crate::settle::{Settle, outcome, run_revision, take_next, tell};
+use crate::settle::{Settle, outcome, pass_clear, run_revision, take_next, tell};
 use palm_agenda::Order;
 use palm_base::{Cid, CidList, HasCid, NoMemory, Pair, Steps, Value, Var};
 use palm_domain::DomainStore;
@@ -161,6 +161,7 @@ impl<F: Filter> Engine<F> {
             let removed = run_revision(&mut self.filtering, &self.posted, &taken, &mut room, steps);
             self.revisions = self.revisions.saturating_add(1);
             tell(order, &taken.cid, removed?);
+            self.revisions = pass_clear(&mut self.filtering, order, limit, self.revisions);
         }
         Ok(outcome(&self.filtering))
     }

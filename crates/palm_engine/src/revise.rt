@@ -60,8 +60,8 @@ fn revise_place<F: Filter, L: Ledger>(
     Ok(())
 }
 
-/// Walks over the places of the constraint's scope, until there is none or a domain is empty; where no place is marked, each value
-/// has support, and there is nothing to walk over. Without memory the walk ends where it stands.
+/// Walks over the places of the constraint's scope, until there is none or a domain is empty. Where a place is not marked, each of its
+/// values has support. Without memory the walk ends where it stands.
 pub(crate) fn revise<F: Filter, L: Ledger>(
     filtering: &mut Filtering,
     constraint: &Posted<F>,
@@ -80,9 +80,6 @@ pub(crate) fn revise<F: Filter, L: Ledger>(
         → IsRevising filtering.new active (active_of F.meaning constraint.now) }
     ensures counted { HasCounted (size_of (initial_of filtering.old.store) (active_of F.meaning constraint.now).con) filtering.old filtering.new steps.old steps.new }
 {
-    if filtering.agenda.is_clear(taken) {
-        return Ok(());
-    }
     let scope = constraint.scope();
     for place in 0..scope.len() {
         if filtering.empty.is_some() {

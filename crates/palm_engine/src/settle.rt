@@ -7,7 +7,7 @@ ghost use Rattle.palm_agenda.specs.Agenda.{IsStanding};
 ghost use Rattle.palm_engine.specs.Following.{OrderAnswers, OrderHears, told_count};
 ghost use Rattle.palm_engine.specs.Kept.{IsInStep, state_in_revision, state_of};
 ghost use Rattle.palm_engine.specs.Posted.{actives_of};
-ghost use Rattle.palm_engine.specs.Revising.{HasCounted, HasPartlyRevised, HasRevised, IsTaken, TakesNext, TakesNone, TellsEnd};
+ghost use Rattle.palm_engine.specs.Revising.{HasCounted, HasPartlyRevised, HasRevised, IsTaken, PassesClear, TakesNext, TakesNone, TellsEnd, most_left};
 ghost use Rattle.palm_engine.specs.Settling.{HasReached};
 ghost use Rattle.palm_engine.specs.Work.{named_sizes};
 
@@ -40,6 +40,30 @@ fn is_reached(limit: Option<u64>, ran: u64) -> bool
         Some(limit) => ran == limit,
         None => false,
     }
+}
+
+/// How many revisions the limit still allows.
+fn left_of(limit: Option<u64>, ran: u64) -> u64
+    ensures { (result ≡ most_left limit ran) × IfSome limit (λ most. most ≤ LAST_COUNT) }
+{
+    limit.unwrap_or(u64::MAX).saturating_sub(ran)
+}
+
+/// Takes the pending constraints that come first and have no mark, where no order is asked for them, while no domain is empty and as
+/// far as the limit allows it. Each is a revision that takes nothing out. Answers how many revisions ran then.
+#[inline(always)]
+pub(crate) fn pass_clear<O: Order>(
+    filtering: &mut Filtering,
+    order: &Option<O>,
+    limit: Option<u64>,
+    ran: u64,
+) -> u64
+    ensures { PassesClear limit (is_some order.now) ran filtering.old filtering.new result }
+{
+    if order.is_some() || filtering.empty.is_some() {
+        return ran;
+    }
+    ran + filtering.agenda.take_clear(left_of(limit, ran))
 }
 
 /// Takes the constraint that is revised next, while no domain is empty and the limit is not reached.

@@ -1,5 +1,4 @@
 use Rattle.std.proofs.Common.{ℕ, ◌≤◌, List, length, sym, subst, ◌∙◌, arith}
-use Rattle.palm_base.proofs.cited.Telling.{tells_true}
 use Rattle.palm_domain.specs.Rows.{present_of}
 use Rattle.palm_model.specs.Constraint.{scope}
 use Rattle.palm_engine.specs.Kept.{IsEmptyKept}
@@ -8,12 +7,7 @@ use Rattle.palm_engine.proofs.Progress.{on_err_of}
 use Rattle.palm_engine.proofs.Places.{places_start, places_more, places_done, places_emptied, places_stopped, places_counted, places_part_counted, kept_empty, place_at}
 use Rattle.palm_engine.proofs.Settles.{none_of}
 use Rattle.palm_engine.proofs.Scopes.{standing_stays}
-use Rattle.palm_engine.proofs.Clear.{clear_walked}
 use Rattle.palm_engine.proofs.revise.revise.Goals as goal
-
-pub returns-then-is_clear-clause-walked : goal.returns-then-is_clear-clause-walked
-returns-then-is_clear-clause-walked g c = λ active r.
-    clear_walked c.args.filtering.now active (active_of g.F.Filter.meaning c.args.constraint.now) r (λ d m named. tells_true _ c.is_clear.result (c.is_clear.ensures d m (named ∙ c.requires.named)) c.if-is_clear.true)
 
 pub loop-place-init : goal.loop-place-init
 loop-place-init g c = λ active r. places_start active (active_of g.F.Filter.meaning c.args.constraint.now) c.args.filtering.now c.args.steps.now r

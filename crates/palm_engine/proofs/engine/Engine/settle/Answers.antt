@@ -10,6 +10,7 @@ use Rattle.palm_engine.specs.Kept.{IsInStep, state_of, state_in_revision}
 use Rattle.palm_engine.specs.Posted.{actives_of}
 use Rattle.palm_engine.specs.Revising.{HasCounted, HasPartlyRevised, HasRevised, IsTaken, TakesNext, TakesNone}
 use Rattle.palm_engine.specs.Work.{named_sizes}
+use Rattle.palm_engine.proofs.Passing.{hears_none, run_passed}
 use Rattle.palm_engine.proofs.Progress.{on_err_of}
 use Rattle.palm_engine.proofs.Running.{HasRunBy, HasTried, run_start, run_more, run_falls, run_settled, run_asked, run_stopped, taken_is, stopped_engine, stopped_asked, tried_checks}
 use Rattle.palm_engine.proofs.engine.Engine.settle.Given as given
@@ -128,17 +129,26 @@ revised g c =
 pub loop-taken-smaller : goal.loop-taken-smaller
 loop-taken-smaller g c =
     let at = goal.at.loop-taken-smaller g c in
-    run_falls (tried g at.After-run_revision-removed) c.in_ok-removed.field-0 (revised g at.In_ok-removed)
+    let tells = tried g at.After-run_revision-removed in
+    let ended = revised g at.In_ok-removed in
+    let active = actives_of g.F.Filter.meaning c.loop-taken.self-inside.posted.items in
+    let by = subst (λ (n : ℕ). HasRunBy (following g) c.args.limit active c.self.inside.filtering c.run_revision-removed.new.filtering n c.args.steps.now c.run_revision-removed.new.steps c.args.order.now c.tell.new.order)
+    (sym c.saturating_add-self-inside.ensures)
+    (run_more c.loop-taken.order tells c.in_ok-removed.field-0 ended c.loop-taken.invariant.by.followed (record { between = c.take_next.new.order; asked = (taking g at.After-run_revision-removed).1; told = c.tell.ensures.told })) in
+    let falls = run_falls tells c.in_ok-removed.field-0 ended in
+    let more = (run_passed c.pass_clear-self-inside.ensures (hears_none g.O.Order.answers g.O.Order.hears g.O.Order.state c.tell.new.order) by).effort in
+    omega (arith, falls, more)
 
 pub loop-taken-preserved : goal.loop-taken-preserved
 loop-taken-preserved g c =
     let at = goal.at.loop-taken-preserved g c in
     let active = actives_of g.F.Filter.meaning c.loop-taken.self-inside.posted.items in
+    let by = subst (λ (n : ℕ). HasRunBy (following g) c.args.limit active c.self.inside.filtering c.run_revision-removed.new.filtering n c.args.steps.now c.run_revision-removed.new.steps c.args.order.now c.tell.new.order)
+    (sym c.saturating_add-self-inside.ensures)
+    (run_more c.loop-taken.order (tried g at.After-run_revision-removed) c.in_ok-removed.field-0 (revised g at.In_ok-removed) c.loop-taken.invariant.by.followed
+    (record { between = c.take_next.new.order; asked = (taking g at.After-run_revision-removed).1; told = c.tell.ensures.told })) in
     record {
-      by = subst (λ (n : ℕ). HasRunBy (following g) c.args.limit active c.self.inside.filtering c.run_revision-removed.new.filtering n c.args.steps.now c.run_revision-removed.new.steps c.args.order.now c.tell.new.order)
-          (sym c.saturating_add-self-inside.ensures)
-          (run_more c.loop-taken.order (tried g at.After-run_revision-removed) c.in_ok-removed.field-0 (revised g at.In_ok-removed) c.loop-taken.invariant.by.followed
-          (record { between = c.take_next.new.order; asked = (taking g at.After-run_revision-removed).1; told = c.tell.ensures.told }));
+      by = (run_passed c.pass_clear-self-inside.ensures (hears_none g.O.Order.answers g.O.Order.hears g.O.Order.state c.tell.new.order) by).by;
       stays = c.tell.ensures.stays ∙ c.take_next.ensures.stays ∙ c.loop-taken.invariant.stays;
       same = c.loop-taken.invariant.same;
     }
