@@ -19,18 +19,6 @@ use Rattle.palm_agenda.proofs.cited.Keeping.{KeepsScopes, if_false, others_after
 
 -- ---- how it shows
 
--- in a scope of one place there is one variable
-pub one_variable : (scope : List ℕ) (x y : ℕ) → length scope ≤ 1 → Contains scope x → Contains scope y → y ≡ x
-one_variable [] x y few m n = absurd (member_nil x m)
-one_variable (z ∷ w ∷ scope) x y few m n = absurd (omega (arith, few))
-one_variable (z ∷ []) x y few m n = elim (member_cases z [] x m) [
-  | inl e ↦ elim (member_cases z [] y n) [
-    | inl f ↦ sym f ∙ e
-    | inr k ↦ absurd (member_nil y k)
-  ]
-  | inr k ↦ absurd (member_nil x k)
-]
-
 -- where each is heeded so, those of a variable of the scope are
 pub alone_at : (scope : List ℕ) (heeds : List Heed) (x : ℕ) → length scope ≤ length heeds → All (λ heed. heed ≡ Alone) heeds → Contains scope x → heed_of x scope heeds ≡ Alone
 alone_at [] heeds x le all m = absurd (member_nil x m)

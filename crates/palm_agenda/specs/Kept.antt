@@ -1,10 +1,11 @@
 -- What an agenda keeps beside what it shows.
-use Rattle.std.specs.Prelude.{◌≡◌, ℕ, ◌≤◌, ◌↔◌, ◌⊎◌, ⊤, Bool, true, false, Option, None, Some, List, map, length, Contains, slice_index_or}
+use Rattle.std.specs.Prelude.{◌≡◌, ℕ, ◌≤◌, ◌↔◌, ◌⊎◌, ⊤, Bool, true, false, Option, None, Some, List, map, length, Contains, IfSome, slice_index_or}
 use Rattle.palm_base.specs.declared.terms.Cid.{Cid}
+use Rattle.palm_base.specs.Order.{Rises}
 use Rattle.palm_agenda.specs.declared.loss.Loss.{Loss}
 use Rattle.palm_agenda.specs.declared.agenda.Woken.{Woken}
 use Rattle.palm_agenda.specs.Open.{is_open}
-use Rattle.palm_agenda.specs.Agenda.{Connected, HeedsAlone, IsFormed, IsOver, Waiting, connected_cids, mark_others}
+use Rattle.palm_agenda.specs.Agenda.{Connected, HeedsAlone, IsConnected, IsFormed, IsOver, IsRun, Waiting, connected_cids, mark_others}
 use Rattle.palm_agenda.specs.Flags.{flagged}
 use Rattle.palm_agenda.specs.Cids.{Roomy, cids_at}
 
@@ -32,6 +33,22 @@ IsWoken (Some w) connected pending =
 abbrev pub IsHeedful : List Bool → List Connected → Type 0
 IsHeedful heedful connected =
     (x : ℕ) (d : Connected) → slice_index_or heedful x false ≡ false → Contains connected d → Contains d.scope x → HeedsAlone d
+
+-- what is noted stays noted
+abbrev pub NotesMore : List Bool → List Bool → Type 0
+NotesMore before after = (x : ℕ) → slice_index_or after x false ≡ false → slice_index_or before x false ≡ false
+
+-- a connected constraint is looked for, and how far behind its number each user's stands, where that is known
+pub record IsSought (connected : List Connected) (lag : Option ℕ) (cid : Cid) : Type 0 where
+  pub rising : Rises (connected_cids connected)
+  pub run : IfSome lag (IsRun connected)
+  pub there : IsConnected connected cid
+
+-- the constraints under the ids are pending besides
+pub record Raises (connected : List Connected) (cids : List Cid) (before after : List Bool) : Type 0 where
+  pub pending : (c : Cid) → Contains (flagged (connected_cids connected) after) c
+      ↔ (Contains (flagged (connected_cids connected) before) c ⊎ Contains cids c)
+  pub flags : length after ≡ length before
 
 -- a loss of the variable woke the constraints over it
 pub record WakesOthers (x : ℕ) (loss : Loss) (before after : Waiting) : Type 0 where

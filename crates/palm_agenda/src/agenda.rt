@@ -14,7 +14,7 @@ ghost use Rattle.palm_agenda.specs.Open.{Covers, is_open};
 ghost use Rattle.palm_agenda.specs.declared.agenda.Woken.{Woken as WokenTerm};
 ghost use Rattle.palm_agenda.specs.Flags.{count_raised, flagged};
 ghost use Rattle.palm_agenda.specs.Cids.{HasSpace, cids_at};
-ghost use Rattle.palm_agenda.specs.Kept.{IsShown, WakesOthers};
+ghost use Rattle.palm_agenda.specs.Kept.{IsShown, IsSought, Raises, WakesOthers};
 ghost use Rattle.palm_agenda.specs.Places.{mark_places};
 
 use crate::cids::Cids;
@@ -42,8 +42,8 @@ struct Woken {
 }
 
 /// The connected constraints by rising id, a flag for each of them that is raised where it is pending, and the ids of
-/// the constraints over each variable. There is room for every id among those that an order is shown; where it is noted so
-/// they are those that are pending. The variable of which a loss woke constraints last is known while nothing was taken or
+/// the constraints over each variable. A variable is noted as heedful before one of them heeds losses of it that leave several
+/// values. There is room for every id among those that an order is shown; where it is noted so they are those that are pending. The variable of which a loss woke constraints last is known while nothing was taken or
 /// unmarked since, and which losses of it may mark something more: another one changes nothing. The lag is how far behind
 /// its number the user's constraint stands that was looked for last; it wraps around.
 #[derive(Debug, Drop)]
@@ -74,16 +74,20 @@ impl Model for Agenda {
         × IsHeedful a.heedful.items a.connections };
 }
 
-/// How many of the connected constraints have ids that come before this one. That of a user is looked for first where it
-/// stands if it lags behind its number as the last one did. Where it does not, its own lag is known from then on.
+/// The place of a connected constraint. That of a user is counted, where the numbers of users leave none out. Else it is
+/// looked for first where it stands if it lags behind its number as the last one did. Where it does not, its own lag is known
+/// from then on.
 #[inline(always)]
-fn place_near(connections: &Connections, lag: &mut usize, cid: &Cid) -> usize
-    requires { Rises (connected_cids connections.now) }
+fn place_near(connections: &Connections, run: &Option<usize>, lag: &mut usize, cid: &Cid) -> usize
+    requires { IsSought connections.now run.now cid.now }
     ensures { IsPartedAt (λ d. cid_before d.cid cid.now) connections.now result }
 {
     let Cid::User(number) = cid else {
         return connections.place_of(cid);
     };
+    if let Some(run) = run {
+        return run.wrapping_add(*number as usize);
+    }
     let guess = lag.wrapping_add(*number as usize);
     if connections.stands_at(guess, cid) {
         return guess;
@@ -91,20 +95,6 @@ fn place_near(connections: &Connections, lag: &mut usize, cid: &Cid) -> usize
     let place = connections.place_of(cid);
     *lag = place.wrapping_sub(*number as usize);
     place
-}
-
-/// The place of a connected constraint: that of a user is counted, where the numbers of users leave none out.
-#[inline(always)]
-fn place_by(connections: &Connections, run: &Option<usize>, lag: &mut usize, cid: &Cid) -> usize
-    requires rising { Rises (connected_cids connections.now) }
-    requires run { IfSome run.now (IsRun connections.now) }
-    requires there { IsConnected connections.now cid.now }
-    ensures { IsPartedAt (λ d. cid_before d.cid cid.now) connections.now result }
-{
-    match (run, cid) {
-        (Some(run), Cid::User(number)) => run.wrapping_add(*number as usize),
-        _ => place_near(connections, lag, cid),
-    }
 }
 
 /// Makes the constraint pending, and marks these places of it, as seen from the variable. It is heard how it heeds losses
@@ -135,7 +125,7 @@ fn wake_named(
     ensures more { (l : LossTerm) → is_open heard.new.still l ≡ false
         → is_open heard.old.still l ≡ false }
 {
-    let place = place_by(connections, run, lag, cid);
+    let place = place_near(connections, run, lag, cid);
     let heed = connections.at(place).heed_for(places, var);
     heard.hear(heed, places);
     connections.mark(place, places, var, &heard.change);
@@ -192,41 +182,19 @@ fn wake_each(
     heard.still
 }
 
-/// Makes the constraint pending.
-#[inline(always)]
-fn raise_named(
-    connections: &Connections,
-    pending: &mut Flags,
-    run: &Option<usize>,
-    lag: &mut usize,
-    cid: &Cid,
-)
-    requires rising { Rises (connected_cids connections.now) }
-    requires run { IfSome run.now (IsRun connections.now) }
-    requires flags { length pending.old.flags ≡ length connections.now }
-    requires there { IsConnected connections.now cid.now }
-    ensures pending { (c : CidTerm) → Contains (flagged (connected_cids connections.now) pending.new.flags) c
-        ↔ (Contains (flagged (connected_cids connections.now) pending.old.flags) c ⊎ (c ≡ cid.now)) }
-    ensures flags { length pending.new.flags ≡ length pending.old.flags }
-{
-    let place = place_by(connections, run, lag, cid);
-    pending.raise(place);
-}
-
 /// Makes each of the constraints pending.
 #[inline(always)]
 fn raise_each(connections: &Connections, pending: &mut Flags, known: &mut usize, cids: &[Cid])
     requires rising { Rises (connected_cids connections.now) }
     requires flags { length pending.old.flags ≡ length connections.now }
     requires there { (c : CidTerm) → Contains cids.now c → IsConnected connections.now c }
-    ensures pending { (c : CidTerm) → Contains (flagged (connected_cids connections.now) pending.new.flags) c
-        ↔ (Contains (flagged (connected_cids connections.now) pending.old.flags) c ⊎ Contains cids.now c) }
-    ensures flags { length pending.new.flags ≡ length pending.old.flags }
+    ensures { Raises connections.now cids.now pending.old.flags pending.new.flags }
 {
     let run = connections.run();
     let mut lag = *known;
     for cid in cids {
-        raise_named(connections, pending, &run, &mut lag, cid);
+        let place = place_near(connections, &run, &mut lag, cid);
+        pending.raise(place);
     }
     *known = lag;
 }

@@ -162,7 +162,8 @@ impl Connection {
     /// How losses of the variable are heeded, where that tells how these places are marked.
     #[inline(always)]
     pub(crate) fn heed_for(&self, places: &Places, var: &Var) -> Heed
-        ensures { (heard : HeardTerm) → HasHeard heard places.now result → HasHeard heard places.now (heed_of var.now self.now.scope self.now.heeds) }
+        ensures { (heard : HeardTerm) → HasHeard heard places.now result
+            → HasHeard heard places.now (heed_of var.now self.now.scope self.now.heeds) }
     {
         match places {
             Places::Own { .. } => Heed::Each,

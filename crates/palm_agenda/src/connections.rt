@@ -68,7 +68,8 @@ fn number_of(cid: &Cid) -> Option<u32>
 /// The number of the user's constraint at the place, where one stands there.
 #[inline(always)]
 fn number_at(part: &[Connection], place: usize) -> Option<u32>
-    ensures { IfSome result (λ number. slice_get (connected_cids part.now) place ≡ Some (User number)) }
+    ensures { IfSome result
+        (λ number. slice_get (connected_cids part.now) place ≡ Some (User number)) }
 {
     number_of(&part.get(place)?.cid())
 }
@@ -77,7 +78,8 @@ fn number_at(part: &[Connection], place: usize) -> Option<u32>
 #[inline(always)]
 fn first_of_run(users: &[Connection]) -> Option<u32>
     requires { Rises (connected_cids users.now) }
-    ensures { IfSome result (λ first. (k n : ℕ) → slice_get (connected_cids users.now) k ≡ Some (User n) → n ≡ first + k) }
+    ensures { IfSome result (λ first. (k n : ℕ)
+        → slice_get (connected_cids users.now) k ≡ Some (User n) → n ≡ first + k) }
 {
     let first = number_at(users, 0)?;
     let place = users.len().checked_sub(1)?;
@@ -93,7 +95,8 @@ fn first_of_run(users: &[Connection]) -> Option<u32>
 #[inline(always)]
 fn has_no_user(front: &[Connection]) -> bool
     requires { Rises (connected_cids front.now) }
-    ensures { result ≡ true → (k n : ℕ) → slice_get (connected_cids front.now) k ≡ Some (User n) → ⊥ }
+    ensures { result ≡ true → (k n : ℕ)
+        → slice_get (connected_cids front.now) k ≡ Some (User n) → ⊥ }
 {
     let Some(connection) = front.last() else {
         return true;
@@ -161,7 +164,7 @@ impl Connections {
     /// How far behind its number each user's constraint stands, where their numbers leave none out. It wraps around.
     #[inline(always)]
     pub(crate) fn run(&self) -> Option<usize>
-        requires { Rises (connected_cids self.now) }
+        requires rising { Rises (connected_cids self.now) }
         ensures { IfSome result (IsRun self.now) }
     {
         if !has_no_user(&self.front) {

@@ -156,8 +156,9 @@ impl Flags {
     /// The place of the first flag that is raised. It is looked for once.
     #[inline(always)]
     pub(crate) fn first(&mut self) -> Option<usize>
-        ensures same { self.new ≡ self.old }
-        ensures first { MatchOption result (count_raised self.old.flags ≡ 0) (IsFirst self.old.flags) }
+        ensures stays { self.new ≡ self.old }
+        ensures first { MatchOption result
+            (count_raised self.old.flags ≡ 0) (IsFirst self.old.flags) }
     {
         if self.raised == 0 {
             return None;

@@ -1,6 +1,7 @@
 //! Which variables have a constraint over them that may heed losses that leave several values.
 ghost use Rattle.std.specs.Prelude.{◌≡◌, ◌<◌, ℕ, true, false, length, slice_index_or, slice_set, Contains, OnOk};
 ghost use Rattle.palm_agenda.specs.Agenda.{HeedsAlone};
+ghost use Rattle.palm_agenda.specs.Kept.{NotesMore};
 
 use crate::connection::Connection;
 use palm_base::{NoMemory, Var};
@@ -22,8 +23,8 @@ fn raise(heedful: &mut Vec<bool>, place: usize)
 }
 
 /// Notes the variable.
-fn note_one(heedful: &mut Vec<bool>, var: &Var) -> Result<(), NoMemory>
-    ensures stay { (x : ℕ) → slice_index_or heedful.new.items x false ≡ false → slice_index_or heedful.old.items x false ≡ false }
+fn note(heedful: &mut Vec<bool>, var: &Var) -> Result<(), NoMemory>
+    ensures more { NotesMore heedful.old.items heedful.new.items }
     ensures noted { OnOk result (slice_index_or heedful.new.items var.now false ≡ true) }
 {
     let place = var.0 as usize;
@@ -34,24 +35,17 @@ fn note_one(heedful: &mut Vec<bool>, var: &Var) -> Result<(), NoMemory>
     Ok(())
 }
 
-/// Notes each of the variables.
-fn note_each(heedful: &mut Vec<bool>, scope: &[Var]) -> Result<(), NoMemory>
-    ensures stay { (x : ℕ) → slice_index_or heedful.new.items x false ≡ false → slice_index_or heedful.old.items x false ≡ false }
-    ensures noted { OnOk result ((x : ℕ) → Contains scope.now x → slice_index_or heedful.new.items x false ≡ true) }
-{
-    for var in scope {
-        note_one(heedful, var)?;
-    }
-    Ok(())
-}
-
 /// Notes the variables of a constraint that may heed losses that leave several values.
 pub(crate) fn note_heeds(heedful: &mut Vec<bool>, connection: &Connection) -> Result<(), NoMemory>
-    ensures stay { (x : ℕ) → slice_index_or heedful.new.items x false ≡ false → slice_index_or heedful.old.items x false ≡ false }
-    ensures alone { OnOk result ((x : ℕ) → slice_index_or heedful.new.items x false ≡ false → Contains connection.now.scope x → HeedsAlone connection.now) }
+    ensures stay { NotesMore heedful.old.items heedful.new.items }
+    ensures alone { OnOk result ((x : ℕ) → slice_index_or heedful.new.items x false ≡ false
+        → Contains connection.now.scope x → HeedsAlone connection.now) }
 {
     if connection.heeds_alone() {
         return Ok(());
     }
-    note_each(heedful, connection.scope())
+    for var in connection.scope() {
+        note(heedful, var)?;
+    }
+    Ok(())
 }

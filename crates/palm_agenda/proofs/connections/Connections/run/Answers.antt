@@ -8,11 +8,11 @@ use Rattle.palm_agenda.proofs.connections.Connections.run.Goals as goal
 
 pub has_no_user-requires : goal.has_no_user-requires
 has_no_user-requires c =
-    subst (λ ds. Rises (connected_cids ds)) (sym c.deref.ensures.value) (rises_front c.self.inside.front.items c.self.inside.users.items (subst (λ ds. Rises (connected_cids ds)) (sym c.self.view_is) c.requires))
+    subst (λ ds. Rises (connected_cids ds)) (sym c.deref.ensures.value) (rises_front c.self.inside.front.items c.self.inside.users.items (subst (λ ds. Rises (connected_cids ds)) (sym c.self.view_is) c.requires.rising))
 
 pub first_of_run-requires : goal.first_of_run-requires
 first_of_run-requires c =
-    subst (λ ds. Rises (connected_cids ds)) (sym c.deref-2.ensures.value) (rises_behind c.self.inside.front.items c.self.inside.users.items (subst (λ ds. Rises (connected_cids ds)) (sym c.self.view_is) c.requires))
+    subst (λ ds. Rises (connected_cids ds)) (sym c.deref-2.ensures.value) (rises_behind c.self.inside.front.items c.self.inside.users.items (subst (λ ds. Rises (connected_cids ds)) (sym c.self.view_is) c.requires.rising))
 
 pub returns : goal.returns
 returns c =

@@ -1,5 +1,5 @@
 use Rattle.std.proofs.Common.{◌≡◌, ℕ, ◌+◌, ◌-◌, false, length, get_or}
-use Rattle.palm_agenda.proofs.heedful.note_one.Given as goal
+use Rattle.palm_agenda.proofs.heedful.note.Given as goal
 
 -- nothing is noted so far
 abbrev pub invariant-loop-heedful : goal.invariant-loop-heedful
