@@ -16,6 +16,7 @@ pub mod Knowing
 pub mod Marking
 pub mod Others
 pub mod Own
+pub mod Parts
 pub mod Passing
 pub mod Places
 pub mod PlacedWalks

@@ -17,6 +17,11 @@ active_of meaning (UserPosted number filter) = user_of number (meaning filter)
 abbrev pub actives_of : {F : Type 0} → (F → Con) → List (Posted F) → List Active
 actives_of meaning posted = map (λ p. active_of meaning p) posted
 
+-- things, and how many more of them find room without more memory
+pub record Roomy (T : Type 0) : Type 0 where
+  pub items : List T
+  pub room : ℕ
+
 -- whether it is a decision
 abbrev pub is_decision : {F : Type 0} → Posted F → Bool
 is_decision (Decision p) = true

@@ -11,8 +11,8 @@ ghost use Rattle.palm_explain.specs.Explanations.{LacksExactly};
 ghost use Rattle.palm_engine.specs.Kept.{state_of};
 ghost use Rattle.palm_engine.specs.Posted.{actives_of};
 
+use crate::actives::Actives;
 use crate::filtering::Filtering;
-use crate::posted::{Posted, place_of};
 use palm_base::{Cid, CidList, NoMemory, Var};
 use palm_explain::CidSet;
 use palm_filter::Filter;
@@ -35,28 +35,28 @@ pub(crate) fn conflict_of(
 }
 
 /// Adds the justifiers of a negation, or the id itself of another constraint.
-fn add_flat<F: Filter>(posted: &[Posted<F>], cid: &Cid, cids: &mut CidSet) -> Result<(), NoMemory>
-    requires rising { Rises (cids_of (actives_of F.meaning posted.now)) }
-    requires active { IsActive (actives_of F.meaning posted.now) cid.now }
+fn add_flat<F: Filter>(posted: &Actives<F>, cid: &Cid, cids: &mut CidSet) -> Result<(), NoMemory>
+    requires rising { Rises (cids_of (actives_of F.meaning posted.now.items)) }
+    requires active { IsActive (actives_of F.meaning posted.now.items) cid.now }
     ensures { OnOk result
-        (Adds cids.old (InFlat (actives_of F.meaning posted.now) (λ c. c ≡ cid.now)) cids.new) }
+        (Adds cids.old (InFlat (actives_of F.meaning posted.now.items) (λ c. c ≡ cid.now)) cids.new) }
 {
     match cid {
-        Cid::Not(_) => posted[place_of(posted, cid)].add_justification(cids),
+        Cid::Not(_) => posted.at(posted.place_of(cid)).add_justification(cids),
         Cid::Decide(_) | Cid::User(_) => cids.add(cid),
     }
 }
 
 /// Adds the same of each of the ids.
 fn add_flat_each<F: Filter>(
-    posted: &[Posted<F>],
+    posted: &Actives<F>,
     from: &[Cid],
     cids: &mut CidSet,
 ) -> Result<(), NoMemory>
-    requires rising { Rises (cids_of (actives_of F.meaning posted.now)) }
-    requires active { (c : CidTerm) → Contains from.now c → IsActive (actives_of F.meaning posted.now) c }
+    requires rising { Rises (cids_of (actives_of F.meaning posted.now.items)) }
+    requires active { (c : CidTerm) → Contains from.now c → IsActive (actives_of F.meaning posted.now.items) c }
     ensures { OnOk result
-        (Adds cids.old (InFlat (actives_of F.meaning posted.now) (Contains from.now)) cids.new) }
+        (Adds cids.old (InFlat (actives_of F.meaning posted.now.items) (Contains from.now)) cids.new) }
 {
     for cid in from {
         add_flat(posted, cid, cids)?;
@@ -67,12 +67,12 @@ fn add_flat_each<F: Filter>(
 /// The ids with each negation replaced by its justification, by rising id.
 pub(crate) fn flat_of<F: Filter>(
     alloc: Global,
-    posted: &[Posted<F>],
+    posted: &Actives<F>,
     from: &[Cid],
 ) -> Result<CidList, NoMemory>
-    requires rising { Rises (cids_of (actives_of F.meaning posted.now)) }
-    requires active { (c : CidTerm) → Contains from.now c → IsActive (actives_of F.meaning posted.now) c }
-    ensures { IfOk result (IsListOf (InFlat (actives_of F.meaning posted.now) (Contains from.now))) }
+    requires rising { Rises (cids_of (actives_of F.meaning posted.now.items)) }
+    requires active { (c : CidTerm) → Contains from.now c → IsActive (actives_of F.meaning posted.now.items) c }
+    ensures { IfOk result (IsListOf (InFlat (actives_of F.meaning posted.now.items) (Contains from.now))) }
 {
     let mut cids = CidSet::new(alloc);
     add_flat_each(posted, from, &mut cids)?;

@@ -18,10 +18,11 @@ ghost use Rattle.palm_engine.specs.Engine.{HasAsked, KeepsCounts};
 ghost use Rattle.palm_engine.specs.Following.{HasSettledBy, IsInterruptedBy, OrderAnswers, OrderFollows};
 ghost use Rattle.palm_engine.specs.Posted.{active_of};
 
+use crate::actives::Actives;
 use crate::conflicts::{conflict_of, flat_of};
 use crate::filtering::Filtering;
 use crate::justification::Justification;
-use crate::posted::{Posted, decisions_of, place_of};
+use crate::posted::Posted;
 use crate::posting::{insert, take_out, take_out_resting};
 use crate::reasons::ReasonRoom;
 use crate::settle::{Settle, outcome, pass_clear, run_revision, take_next, tell};
@@ -39,7 +40,7 @@ use std::sync::ledger::Ledger;
 #[derive(Drop)]
 pub struct Engine<F: Filter> {
     filtering: Filtering,
-    posted: Vec<Posted<F>>,
+    posted: Actives<F>,
     revisions: u64,
 }
 
@@ -62,7 +63,7 @@ impl<F: Filter> Engine<F> {
     {
         Engine {
             filtering: Filtering::new(alloc),
-            posted: Vec::new(alloc),
+            posted: Actives::new(alloc),
             revisions: 0,
         }
     }
@@ -131,7 +132,7 @@ impl<F: Filter> Engine<F> {
         ensures counts { KeepsCounts self.old self.new }
         ensures valid { IsValid self.new.state }
     {
-        let place = place_of(&self.posted, &cid);
+        let place = self.posted.place_of(&cid);
         take_out(&mut self.filtering, &mut self.posted, place);
         take_out_resting(&mut self.filtering, &mut self.posted, &cid);
     }
@@ -236,7 +237,7 @@ impl<F: Filter> Engine<F> {
     pub fn is_active(&self, cid: Cid) -> bool
         ensures { Tells result (IsActive self.now.state.active cid) }
     {
-        match self.posted.get(place_of(&self.posted, &cid)) {
+        match self.posted.get(self.posted.place_of(&cid)) {
             Some(constraint) => constraint.cid().is_same(&cid),
             None => false,
         }
@@ -250,7 +251,7 @@ impl<F: Filter> Engine<F> {
         ensures only { IfSome result (λ filter. (a : Active) → Contains self.now.state.active a → a.cid ≡ Cid.User number
             → a ≡ user_of number (F.meaning filter.now)) }
     {
-        let constraint = self.posted.get(place_of(&self.posted, &Cid::User(number)))?;
+        let constraint = self.posted.get(self.posted.place_of(&Cid::User(number)))?;
         constraint.filter(number)
     }
 
@@ -260,7 +261,7 @@ impl<F: Filter> Engine<F> {
             ((p : PairTerm) → IsActive self.now.state.active (Cid.Not p) → ⊥)
             (λ p. IsActive self.now.state.active (Cid.Not p) × ((q : PairTerm) → IsActive self.now.state.active (Cid.Not q) → pair_before q p ≡ true → ⊥)) }
     {
-        let constraint = self.posted.get(decisions_of(&self.posted))?;
+        let constraint = self.posted.get(self.posted.decisions())?;
         constraint.negated()
     }
 

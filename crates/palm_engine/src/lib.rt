@@ -1,6 +1,7 @@
 //! The engine: revisions and settlings, the laws on them, and what a settling may ask at most.
 #![tactic(auto)]
 
+mod actives;
 mod alike;
 mod apart;
 mod between;

@@ -234,21 +234,3 @@ impl<F: Filter> Posted<F> {
         }
     }
 }
-
-/// How many of the constraints have ids that come before this one. The one under the id stands behind these.
-pub(crate) fn place_of<F: Filter>(posted: &[Posted<F>], cid: &Cid) -> usize
-    requires { Rises (cids_of (actives_of F.meaning posted.now)) }
-    ensures parted { IsPartedAt (λ p. cid_before (active_of F.meaning p).cid cid.now) posted.now result }
-    ensures owner { (a : Active) → Contains (actives_of F.meaning posted.now) a → a.cid ≡ cid.now
-        → slice_get (actives_of F.meaning posted.now) result ≡ Some a }
-{
-    palm_base::place_of(posted, cid)
-}
-
-/// How many of the constraints are decisions. The others stand behind these.
-pub(crate) fn decisions_of<F: Filter>(posted: &[Posted<F>]) -> usize
-    requires { Rises (cids_of (actives_of F.meaning posted.now)) }
-    ensures { IsPartedAt is_decision posted.now result }
-{
-    posted.partition_point(|constraint| constraint.is_decision())
-}

@@ -1,5 +1,5 @@
 //! Putting a constraint among the active ones, and taking it out with what rests on it.
-ghost use Rattle.std.specs.Prelude.{◌≡◌, ◌↔◌, ◌⊎◌, ℕ, ◌<◌, ◌≤◌, List, [], ◌∷◌, length, remove, Contains, Some, true, false, IfOk, IfSome, OnErr, OnOk, slice_get};
+ghost use Rattle.std.specs.Prelude.{◌≡◌, ◌↔◌, ◌⊎◌, ℕ, ◌-◌, ◌^◌, ◌<◌, ◌≤◌, List, [], ◌∷◌, length, remove, Contains, Some, true, false, IfOk, IfSome, OnErr, OnOk, slice_get};
 ghost use Rattle.palm_base.specs.declared.terms.Cid.{Cid as CidTerm};
 ghost use Rattle.palm_model.specs.Constraint.{scope, IsWellFormed};
 ghost use Rattle.palm_model.specs.Event.{WithdrawsAll, with_posted};
@@ -11,8 +11,9 @@ ghost use Rattle.palm_filter.specs.Heeds.{FitsHeed};
 ghost use Rattle.palm_engine.specs.Kept.{AreConnected, IsHeededAs, IsInStep, state_of};
 ghost use Rattle.palm_engine.specs.Posted.{active_of, actives_of, is_negation, resting_on};
 
+use crate::actives::Actives;
 use crate::filtering::Filtering;
-use crate::posted::{Posted, decisions_of, place_of};
+use crate::posted::Posted;
 use palm_agenda::Agenda;
 use palm_base::{Cid, HasCid, NoMemory};
 use palm_filter::{Filter, Heed};
@@ -38,7 +39,7 @@ fn heeds_of<F: Filter>(alloc: Global, constraint: &Posted<F>) -> Result<Vec<Heed
 /// Puts a constraint at its place, pending. Without memory nothing changes.
 pub(crate) fn insert<F: Filter>(
     agenda: &mut Agenda,
-    posted: &mut Vec<Posted<F>>,
+    posted: &mut Actives<F>,
     constraint: Posted<F>,
 ) -> Result<(), NoMemory>
     requires rising { Rises (cids_of (actives_of F.meaning posted.old.items)) }
@@ -53,21 +54,16 @@ pub(crate) fn insert<F: Filter>(
     ensures err { OnErr result ((posted.new.items ≡ posted.old.items) × (agenda.new ≡ agenda.old)) }
 {
     let cid = constraint.cid();
-    let place = place_of(posted, &cid);
-    posted.reserve(1)?;
+    let place = posted.place_of(&cid);
+    posted.reserve()?;
     let heeds = heeds_of(*posted.allocator(), &constraint)?;
     agenda.connect(cid, constraint.scope(), heeds)?;
-    let inserted = posted.insert(place, constraint);
-    prove!(inserted.is_ok());
+    posted.insert(place, constraint);
     Ok(())
 }
 
 /// Takes the constraint at a place out, with all removals that rest on it.
-pub(crate) fn take_out<F: Filter>(
-    filtering: &mut Filtering,
-    posted: &mut Vec<Posted<F>>,
-    place: usize,
-)
+pub(crate) fn take_out<F: Filter>(filtering: &mut Filtering, posted: &mut Actives<F>, place: usize)
     requires kept { IsInStep filtering.old (actives_of F.meaning posted.old.items) }
     requires rising { Rises (cids_of (actives_of F.meaning posted.old.items)) }
     requires within { place < length posted.old.items }
@@ -82,9 +78,10 @@ pub(crate) fn take_out<F: Filter>(
 }
 
 /// Whether a negation stands at the place.
-fn stands_negation<F: Filter>(posted: &[Posted<F>], place: usize) -> bool
-    ensures within { result ≡ true → place < length posted.now }
-    ensures other { result ≡ false → IfSome (slice_get posted.now place) (λ p. is_negation p ≡ false) }
+fn stands_negation<F: Filter>(posted: &Actives<F>, place: usize) -> bool
+    ensures within { result ≡ true → place < length posted.now.items }
+    ensures few { result ≡ true → place < 2 ^ 64 - 1 }
+    ensures other { result ≡ false → IfSome (slice_get posted.now.items place) (λ p. is_negation p ≡ false) }
 {
     match posted.get(place) {
         Some(constraint) => constraint.is_negation(),
@@ -95,7 +92,7 @@ fn stands_negation<F: Filter>(posted: &[Posted<F>], place: usize) -> bool
 /// Takes each negation out whose justification holds the id, with all removals that rest on it.
 pub(crate) fn take_out_resting<F: Filter>(
     filtering: &mut Filtering,
-    posted: &mut Vec<Posted<F>>,
+    posted: &mut Actives<F>,
     cid: &Cid,
 )
     requires kept { IsInStep filtering.old (actives_of F.meaning posted.old.items) }
@@ -104,9 +101,9 @@ pub(crate) fn take_out_resting<F: Filter>(
     ensures withdraws { WithdrawsAll (state_of filtering.old (actives_of F.meaning posted.old.items)) (resting_on (actives_of F.meaning posted.old.items) cid.now) (state_of filtering.new (actives_of F.meaning posted.new.items)) }
     ensures checks { filtering.new.checks ≡ filtering.old.checks }
 {
-    let mut place = decisions_of(posted);
+    let mut place = posted.decisions();
     while stands_negation(posted, place) {
-        if posted[place].rests_on(cid) {
+        if posted.at(place).rests_on(cid) {
             take_out(filtering, posted, place);
         } else {
             place += 1;

@@ -11,8 +11,8 @@ ghost use Rattle.palm_engine.specs.Revising.{HasCounted, HasPartlyRevised, HasRe
 ghost use Rattle.palm_engine.specs.Settling.{HasReached};
 ghost use Rattle.palm_engine.specs.Work.{named_sizes};
 
+use crate::actives::Actives;
 use crate::filtering::Filtering;
-use crate::posted::Posted;
 use crate::reasons::ReasonRoom;
 use crate::revise::revise;
 use palm_agenda::{Agenda, Order, Taken};
@@ -108,19 +108,19 @@ pub(crate) fn tell<O: Order>(order: &mut Option<O>, cid: &Cid, removed: usize)
 #[inline(always)]
 pub(crate) fn run_revision<F: Filter, L: Ledger>(
     filtering: &mut Filtering,
-    posted: &[Posted<F>],
+    posted: &Actives<F>,
     taken: &Taken,
     room: &mut ReasonRoom,
     steps: &mut Steps<L>,
 ) -> Result<usize, NoMemory>
-    requires taken { IsTaken filtering.old (actives_of F.meaning posted.now) taken.now.cid }
+    requires taken { IsTaken filtering.old (actives_of F.meaning posted.now.items) taken.now.cid }
     requires standing { IsStanding filtering.old.agenda.connected taken.now }
-    ensures ok { IfOk result (HasRevised (actives_of F.meaning posted.now) taken.now.cid (state_in_revision filtering.old (actives_of F.meaning posted.now) taken.now.cid) (state_of filtering.new (actives_of F.meaning posted.now))) }
-    ensures err { OnErr result (HasPartlyRevised (actives_of F.meaning posted.now) taken.now.cid (state_in_revision filtering.old (actives_of F.meaning posted.now) taken.now.cid) (state_of filtering.new (actives_of F.meaning posted.now))) }
-    ensures kept { IsInStep filtering.new (actives_of F.meaning posted.now) }
-    ensures counted { HasCounted (named_sizes (state_in_revision filtering.old (actives_of F.meaning posted.now) taken.now.cid) (taken.now.cid ∷ [])) filtering.old filtering.new steps.old steps.new }
+    ensures ok { IfOk result (HasRevised (actives_of F.meaning posted.now.items) taken.now.cid (state_in_revision filtering.old (actives_of F.meaning posted.now.items) taken.now.cid) (state_of filtering.new (actives_of F.meaning posted.now.items))) }
+    ensures err { OnErr result (HasPartlyRevised (actives_of F.meaning posted.now.items) taken.now.cid (state_in_revision filtering.old (actives_of F.meaning posted.now.items) taken.now.cid) (state_of filtering.new (actives_of F.meaning posted.now.items))) }
+    ensures kept { IsInStep filtering.new (actives_of F.meaning posted.now.items) }
+    ensures counted { HasCounted (named_sizes (state_in_revision filtering.old (actives_of F.meaning posted.now.items) taken.now.cid) (taken.now.cid ∷ [])) filtering.old filtering.new steps.old steps.new }
 {
-    let constraint = &posted[taken.at];
+    let constraint = posted.at(taken.at);
     let before = filtering.log.removals();
     if revise(filtering, constraint, taken, room, steps).is_err() {
         filtering.agenda.wake_taken(taken);

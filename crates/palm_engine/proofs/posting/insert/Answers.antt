@@ -19,12 +19,8 @@ returns-clause-active g c =
     let before = c.args.posted.now.items in
     let place = c.place_of-place.result in
     let new = c.args.constraint in
-    let at : IsPartedAt (λ p. cid_before (active_of meaning p).cid c.cid-cid.result) c.deref.result.now place = c.place_of-place.ensures.parted in
-    let here = subst (λ d. IsPartedAt (λ p. cid_before (active_of meaning p).cid d) before place) c.cid-cid.ensures (subst (λ xs. IsPartedAt (λ p. cid_before (active_of meaning p).cid c.cid-cid.result) xs place) c.deref.ensures.value at) in
-    ap (actives_of meaning)
-    (c.insert-inserted.ensures.items
-    ∙ ap (λ b. if b then insert c.reserve.new.self.items place new else c.reserve.new.self.items) (sym c.is_ok.ensures.value ∙ c.if-prove.false)
-    ∙ ap (λ xs. insert xs place new) c.in_ok-reserve.ensures.items)
+    let here = subst (λ d. IsPartedAt (λ p. cid_before (active_of meaning p).cid d) before place) c.cid-cid.ensures c.place_of-place.ensures.parted in
+    ap (actives_of meaning) (c.insert.ensures ∙ ap (λ xs. insert xs place new) c.reserve.ensures.items)
     ∙ inserted_cids (active_of meaning) before new place c.requires.rising here c.requires.inactive
 
 pub returns-clause-connected : goal.returns-clause-connected

@@ -1,4 +1,4 @@
 use Rattle.palm_engine.proofs.engine.Engine.flat.Goals as goal
 
 pub flat_of-requires-clause-active : goal.flat_of-requires-clause-active
-flat_of-requires-clause-active g c = rw (c.deref.ensures.value, c.as_slice.ensures) (rw (← c.self.view_is) at c.requires)
+flat_of-requires-clause-active g c = rw (c.as_slice.ensures) (rw (← c.self.view_is) at c.requires)

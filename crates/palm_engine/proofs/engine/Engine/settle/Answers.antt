@@ -51,8 +51,8 @@ tried g c =
     record {
       run = c.loop-taken.invariant.by.run;
       takes = (taking g c).0;
-      kept = subst (λ ys. IsInStep after (actives_of meaning ys)) c.deref.ensures.value c.run_revision-removed.ensures.kept;
-      counted = subst (λ ys. HasCounted (named_sizes (state_in_revision before (actives_of meaning ys) cid) (cid ∷ [])) before after c.loop-taken.steps c.run_revision-removed.new.steps) c.deref.ensures.value c.run_revision-removed.ensures.counted;
+      kept = c.run_revision-removed.ensures.kept;
+      counted = c.run_revision-removed.ensures.counted;
     }
 
 pub loop-taken-init : goal.loop-taken-init
@@ -68,7 +68,6 @@ run_revision-removed-requires-clause-taken g c =
     let now = c.loop-taken.self-inside.filtering in
     let after = c.take_next.new.filtering in
     let takes = subst (λ (o : Bool). TakesNext c.args.limit o c.loop-taken.self-inside.revisions now after c.in-Some.taken.cid) c.loop-taken.invariant.stays c.in-Some.ensures.some.0 in
-    subst (λ ys. IsTaken after (actives_of meaning ys) c.in-Some.taken.cid) (sym c.deref.ensures.value)
     (taken_is c.args.limit (is_some c.args.order.now) c.loop-taken.self-inside.revisions (actives_of meaning c.loop-taken.self-inside.posted.items) now after c.in-Some.taken.cid takes c.loop-taken.invariant.by.run.engine)
 
 -- ---- where memory ran out
@@ -76,11 +75,9 @@ run_revision-removed-requires-clause-taken g c =
 part : (g : given.Over) (c : In_err-removed g) → HasPartlyRevised (actives_of g.F.Filter.meaning c.loop-taken.self-inside.posted.items) c.in-Some.taken.cid
     (state_in_revision c.take_next.new.filtering (actives_of g.F.Filter.meaning c.loop-taken.self-inside.posted.items) c.in-Some.taken.cid) (state_of c.run_revision-removed.new.filtering (actives_of g.F.Filter.meaning c.loop-taken.self-inside.posted.items))
 part g c =
-    let actives = actives_of g.F.Filter.meaning in
+    let active = actives_of g.F.Filter.meaning c.loop-taken.self-inside.posted.items in
     let cid = c.in-Some.taken.cid in
-    let told = subst (λ (r : Result ℕ NoMemory). OnErr r (HasPartlyRevised (actives c.deref.result.now) cid (state_in_revision c.take_next.new.filtering (actives c.deref.result.now) cid) (state_of c.run_revision-removed.new.filtering (actives c.deref.result.now))))
-    c.in_err-removed.was c.run_revision-removed.ensures.err in
-    subst (λ ys. HasPartlyRevised (actives ys) cid (state_in_revision c.take_next.new.filtering (actives ys) cid) (state_of c.run_revision-removed.new.filtering (actives ys))) c.deref.ensures.value told
+    subst (λ (r : Result ℕ NoMemory). OnErr r (HasPartlyRevised active cid (state_in_revision c.take_next.new.filtering active cid) (state_of c.run_revision-removed.new.filtering active))) c.in_err-removed.was c.run_revision-removed.ensures.err
 
 pub invariant_of-self : goal.invariant_of-self
 invariant_of-self g c =
@@ -120,11 +117,9 @@ returns-in_err-removed-clause-valid g c =
 revised : (g : given.Over) (c : In_ok-removed g) → HasRevised (actives_of g.F.Filter.meaning c.loop-taken.self-inside.posted.items) c.in-Some.taken.cid
     (state_in_revision c.take_next.new.filtering (actives_of g.F.Filter.meaning c.loop-taken.self-inside.posted.items) c.in-Some.taken.cid) (state_of c.run_revision-removed.new.filtering (actives_of g.F.Filter.meaning c.loop-taken.self-inside.posted.items)) c.in_ok-removed.field-0
 revised g c =
-    let actives = actives_of g.F.Filter.meaning in
+    let active = actives_of g.F.Filter.meaning c.loop-taken.self-inside.posted.items in
     let cid = c.in-Some.taken.cid in
-    let told = subst (λ (r : Result ℕ NoMemory). IfOk r (HasRevised (actives c.deref.result.now) cid (state_in_revision c.take_next.new.filtering (actives c.deref.result.now) cid) (state_of c.run_revision-removed.new.filtering (actives c.deref.result.now))))
-    c.in_ok-removed.was c.run_revision-removed.ensures.ok in
-    subst (λ ys. HasRevised (actives ys) cid (state_in_revision c.take_next.new.filtering (actives ys) cid) (state_of c.run_revision-removed.new.filtering (actives ys)) c.in_ok-removed.field-0) c.deref.ensures.value told
+    subst (λ (r : Result ℕ NoMemory). IfOk r (HasRevised active cid (state_in_revision c.take_next.new.filtering active cid) (state_of c.run_revision-removed.new.filtering active))) c.in_ok-removed.was c.run_revision-removed.ensures.ok
 
 pub loop-taken-smaller : goal.loop-taken-smaller
 loop-taken-smaller g c =

@@ -12,10 +12,8 @@ use Rattle.palm_engine.proofs.engine.Engine.withdraw.Goals.{After-place_of-place
 -- the constraint under the id, and its place
 placed : (g : given.Over) (c : After-place_of-place g) → (a : Active) × (a.cid ≡ c.args.cid) × (slice_get (actives_of g.F.Filter.meaning c.self.inside.posted.items) c.place_of-place.result ≡ Some a)
 placed g c =
-    let meaning = g.F.Filter.meaning in
     let is = rw (← c.self.view_is) at c.requires in
-    let at = subst (λ ys. (a : Active) → Contains (actives_of meaning ys) a → a.cid ≡ c.args.cid → slice_get (actives_of meaning ys) c.place_of-place.result ≡ Some a) c.deref.ensures.value c.place_of-place.ensures.owner in
-    (is.owner, is.named, at is.owner is.posted is.named)
+    (is.owner, is.named, c.place_of-place.ensures.owner is.owner is.posted is.named)
 
 -- what is left is an engine again, and the constraint is withdrawn
 withdrawn : (g : given.Over) (c : After-take_out_resting g) → (a : Active) × (a.cid ≡ c.args.cid) × (slice_get (actives_of g.F.Filter.meaning c.self.inside.posted.items) c.place_of-place.result ≡ Some a)
