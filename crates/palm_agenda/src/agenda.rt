@@ -453,15 +453,6 @@ impl Agenda {
         self.connections.at(taken.at).marks()
     }
 
-    /// Whether no value may lack support in the constraint: each of its marks is clear.
-    #[inline(always)]
-    pub fn is_clear(&self, taken: &Taken) -> bool
-        requires { IsStanding self.now.connected taken.now }
-        ensures { (d : Connected) → Contains self.now.connected d → d.cid ≡ taken.now.cid → Tells result (All (λ mark. mark ≡ Clear) d.marks) }
-    {
-        are_clear(self.marks(taken))
-    }
-
     /// The mark of a place of the constraint's scope.
     pub fn mark(&self, taken: &Taken, place: usize) -> Mark
         requires standing { IsStanding self.now.connected taken.now }

@@ -1,5 +1,5 @@
 -- What an engine keeps holds after a removal, a withdrawal, a posting and a declaration.
-use Rattle.std.proofs.Common.{◌≡◌, ℕ, ◌<◌, true, false, not, List, [], ◌∷◌, ◌++◌, length, map, Contains, Option, None, Some, ℤ, All, ◌+◌, ◌⊎◌, ◌↔◌, inl, inr, refl, sym, ap, ◌∙◌, subst, arith, length-append}
+use Rattle.std.proofs.Common.{◌≡◌, ℕ, ◌<◌, true, false, not, List, [], ◌∷◌, ◌++◌, length, Contains, Option, None, Some, ℤ, All, ◌+◌, ◌⊎◌, ◌↔◌, inl, inr, refl, sym, ap, ◌∙◌, subst, arith, length-append}
 use Rattle.std.specs.List.{list_any}
 use Rattle.std.proofs.lemmas.Bool.{or_cases, false≢true, cases_lt}
 use Rattle.std.specs.Prelude.{slice_set}
@@ -8,7 +8,7 @@ use Rattle.std.proofs.lemmas.List.Elements.{All-append, All-cons, All-nil, Conta
 use Rattle.palm_base.specs.declared.terms.Pair.{Pair}
 use Rattle.palm_base.specs.declared.terms.Cid.{Cid}
 use Rattle.palm_base.proofs.cited.Members.{member_nil, member_here, member_there, member_cases, member_same, member_single, member_filter, all_members, nat_known}
-use Rattle.palm_domain.specs.Rows.{Row, IsPresent, LosesPair, initial_of, present_of, present_values, values_without}
+use Rattle.palm_domain.specs.Rows.{Row, IsPresent, initial_of, present_of, values_without}
 use Rattle.palm_model.specs.Domains.{Domains, AllAscend, Ascends, Has, IsInside, is_among, values_of, without}
 use Rattle.palm_model.specs.Constraint.{scope}
 use Rattle.palm_base.specs.Order.{Rises}
@@ -27,11 +27,10 @@ use Rattle.palm_events.proofs.cited.States.{over_member, awake_named, awake_over
 use Rattle.palm_events.proofs.cited.Valid.{active_declared, declares_valid, left_grows, posts_valid}
 use Rattle.palm_explain.specs.Explanations.{Explanations, IsSpanned, LacksExactly}
 use Rattle.palm_filter.specs.declared.heed.Heed.{Heed}
-use Rattle.palm_agenda.specs.declared.loss.Loss.{Loss}
-use Rattle.palm_agenda.specs.Agenda.{Waiting, IsFormed, IsOver, mark_others, marked_whole, with_connected, without_connected}
+use Rattle.palm_agenda.specs.Agenda.{Waiting, IsFormed, IsOver, marked_whole, with_connected, without_connected}
 use Rattle.palm_engine.specs.declared.filtering.Filtering.{Filtering}
 use Rattle.palm_engine.specs.Kept.{AreConnected, AreHeeded, AreMarked, IsEmptyKept, IsHeededAs, IsInStep, IsEngine, state_of}
-use Rattle.palm_engine.specs.Changed.{HasLost, NotesGain, NotesLoss, PutsBack, TakesOut, TellsLoss, widened_by}
+use Rattle.palm_engine.specs.Changed.{HasLost, NotesGain, PutsBack, TakesOut, widened_by}
 use Rattle.palm_engine.proofs.Scopes.{active_over, bare_widened, connected_is_active, connected_stays, heeded_stays, over_active, with_heeded, with_is_connected, without_heeded, without_is_connected}
 use Rattle.palm_engine.proofs.Taking.{without_push}
 use Rattle.palm_engine.proofs.Marking.{agreeing_marked, restored_marked, posted_marked}

@@ -1,5 +1,5 @@
 -- A rule that a walk knows stays known while values of its own variable go.
-use Rattle.std.proofs.Common.{◌≡◌, ℕ, ◌<◌, ℤ, ◌≤ℤ◌, Option, Some, None, IfSome, MatchOption, pos, ◌+ℤ◌, ◌<ℤ◌, List, length, All, Contains, sym, ap, ◌∙◌, subst, arith}
+use Rattle.std.proofs.Common.{◌≡◌, ℕ, ◌<◌, ℤ, ◌≤ℤ◌, Option, Some, None, IfSome, MatchOption, pos, ◌+ℤ◌, ◌<ℤ◌, List, length, Contains, sym, ap, ◌∙◌, subst, arith}
 use Rattle.std.specs.Bool.{⊤}
 use Rattle.std.proofs.lemmas.Int.{ints}
 use Rattle.palm_base.specs.declared.terms.Pair.{Pair}

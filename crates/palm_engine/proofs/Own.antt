@@ -1,12 +1,11 @@
 -- A reason does not look at the rest of its own variable's domain.
-use Rattle.std.proofs.Common.{◌≡◌, ℕ, zero, suc, ℤ, pos, ◌+ℤ◌, ◌*ℤ◌, ◌-◌, ◌+◌, Bool, true, false, cond, not, ◌&&◌, ◌||◌, List, [], ◌∷◌, ◌++◌, length, map, flat_map, filter, take, Contains, ◌⊎◌, inl, inr, refl, sym, ap, ◌∙◌, subst, eqb, eq-eqb, ne_eqb, int_lt, int_eq, nat_eq, eqb-true}
-use Rattle.std.proofs.lemmas.Bool.{both_ways, not-true, cases_Bool, and_parts}
-use Rattle.std.proofs.lemmas.Bool.Decides.{Decides-int_eq}
+use Rattle.std.proofs.Common.{◌≡◌, ℕ, ℤ, ◌+ℤ◌, ◌*ℤ◌, ◌-◌, ◌+◌, Bool, true, false, cond, not, ◌&&◌, ◌||◌, List, [], ◌∷◌, ◌++◌, length, map, flat_map, filter, take, Contains, inl, inr, refl, sym, ap, ◌∙◌, subst, eq-eqb, int_lt, int_eq, nat_eq}
+use Rattle.std.proofs.lemmas.Bool.{both_ways, not-true}
 use Rattle.std.specs.List.{list_any}
 use Rattle.palm_base.specs.declared.terms.Pair.{Pair}
-use Rattle.palm_base.proofs.cited.Members.{member_nil, member_here, member_there, member_cases, member_same, member_take, member_unmap, filter_member, filter_agree_members, nat_known}
+use Rattle.palm_base.proofs.cited.Members.{member_nil, member_here, member_there, member_cases, member_same, member_take, filter_member, filter_agree_members, nat_known}
 use Rattle.palm_model.specs.Constraint.{Distinct, scope}
-use Rattle.palm_model.specs.Count.{counted_pairs, count_reason, low_pairs, high_pairs, needs_low, needs_high, is_target_fit, is_within_counts, least_count, greatest_count, own_count, target_pairs}
+use Rattle.palm_model.specs.Count.{counted_pairs, count_reason, needs_low, needs_high, is_target_fit, is_within_counts, least_count, greatest_count, own_count, target_pairs}
 use Rattle.palm_model.specs.Differ.{differ_reason}
 use Rattle.palm_model.specs.Domains.{Domains, Has, values_of, is_among}
 use Rattle.palm_model.specs.Linear.{values_below, values_above, other_terms, at_most_reason, at_least_reason, linear_reason, least_total, least_of, greatest_of, products, term_vars}

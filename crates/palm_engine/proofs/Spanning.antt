@@ -1,14 +1,14 @@
 -- Values that stand side by side: a span of removals stands for them.
-use Rattle.std.proofs.Common.{◌≡◌, ℕ, suc, ℤ, ◌+◌, ◌-◌, ◌<◌, ◌≤◌, ◌≤ℤ◌, ◌<ℤ◌, ◌++◌, List, [], ◌∷◌, length, take, drop, get_or, min, slice_get, All, Contains, Some, inl, inr, refl, sym, ap, ◌∙◌, subst, arith, append-nil, append_assoc}
+use Rattle.std.proofs.Common.{◌≡◌, ℕ, suc, ℤ, ◌+◌, ◌-◌, ◌<◌, ◌≤◌, ◌≤ℤ◌, ◌++◌, List, [], ◌∷◌, length, take, drop, get_or, min, slice_get, All, Contains, Some, inl, inr, refl, sym, ap, ◌∙◌, subst, arith, append-nil, append_assoc}
 use Rattle.std.proofs.lemmas.Grind.{flat_map-append}
 use Rattle.std.proofs.lemmas.Bool.{cases_lt}
 use Rattle.std.proofs.lemmas.Int.{ints}
-use Rattle.std.proofs.lemmas.List.{drop-take, drop_all, get_or-drop, get_or-take, length-drop, length-map, length-take-le, take_all, take_more}
+use Rattle.std.proofs.lemmas.List.{drop-take, drop_all, get_or-drop, get_or-take, length-drop, length-map, length-take-le, take_all}
 use Rattle.std.proofs.lemmas.Option.{get_or_from_slice_get, slice_get_within}
 use Rattle.palm_base.specs.declared.terms.Pair.{Pair}
 use Rattle.palm_base.proofs.cited.Members.{member_flat_map, member_map}
 use Rattle.palm_domain.specs.Rows.{Ascends, Row, IsDeclared, IsPresent, declared_values, initial_of, present_of}
-use Rattle.palm_domain.proofs.cited.Ascending.{get_or-ascends, get_or-rises, Ascends-from_adjacent, place_below}
+use Rattle.palm_domain.proofs.cited.Ascending.{get_or-ascends, get_or-rises, Ascends-from_adjacent}
 use Rattle.palm_explain.specs.Entries.{pairs_with}
 use Rattle.palm_explain.specs.Explanations.{AreSpanned, IsSpanOf}
 use Rattle.palm_explain.specs.Explanations.AreSpanned.{spans_end, spans_on}

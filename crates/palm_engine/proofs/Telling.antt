@@ -1,5 +1,5 @@
 -- Spans that are told by a rule at once: from a number on, up to one, of one, and of all but one.
-use Rattle.std.proofs.Common.{◌≡◌, ◌-◌, ℤ, pos, ◌+ℤ◌, ◌-ℤ◌, ◌<ℤ◌, ◌≤ℤ◌, ℕ, Bool, true, not, List, [], ◌∷◌, ◌++◌, filter, length, get_or, Contains, Result, OnOk, inl, inr, refl, sym, ap, ◌∙◌, subst, arith, append-nil, append_assoc, int_lt, int_eq}
+use Rattle.std.proofs.Common.{◌≡◌, ◌-◌, ℤ, pos, ◌+ℤ◌, ◌-ℤ◌, ◌≤ℤ◌, ℕ, Bool, true, not, List, [], ◌∷◌, ◌++◌, filter, length, get_or, Contains, Result, OnOk, inl, inr, refl, sym, ap, ◌∙◌, subst, arith, append-nil, append_assoc, int_lt, int_eq}
 use Rattle.std.proofs.lemmas.Int.{ints}
 use Rattle.std.proofs.lemmas.Bool.{cases_Bool, not-true}
 use Rattle.std.proofs.lemmas.List.Elements.{Contains-append_cases, Contains-append_left, Contains-append_right}

@@ -1,7 +1,5 @@
-use Rattle.std.proofs.Common.{◌≡◌, ◌+◌, ◌<◌, ap, arith, length, slice_get, suc, sym, subst, ◌∙◌}
-use Rattle.std.specs.Prelude.{IfSome, false}
-use Rattle.palm_base.specs.Order.{IsPartedAt}
-use Rattle.palm_engine.specs.Posted.{active_of, actives_of, is_decision, is_negation}
+use Rattle.std.proofs.Common.{◌≡◌, ◌+◌, ap, arith, suc, sym, subst, ◌∙◌}
+use Rattle.palm_engine.specs.Posted.{active_of, actives_of}
 use Rattle.palm_engine.proofs.Placing.{at_place, behind_decisions, front_stands, map_remove, removed_rises, rest_stands}
 use Rattle.palm_engine.proofs.cited.Withdrawing.{IsWalked, walk_starts, walk_ends, walked_out, walked_past}
 use Rattle.palm_engine.proofs.posting.take_out_resting.Goals as goal

@@ -1,5 +1,4 @@
 use Rattle.std.proofs.Common.{Contains, IfSome, sym, subst}
-use Rattle.palm_domain.specs.Rows.{initial_of, present_of}
 use Rattle.palm_explain.specs.Explanations.{AreSpanned}
 use Rattle.palm_engine.specs.Reasons.{IsKnown}
 use Rattle.palm_engine.proofs.Knowing.{covered_last, known_on}

@@ -1,4 +1,4 @@
-use Rattle.std.proofs.Common.{[], ◌+ℤ◌, ℤ, not, int_lt, int_eq, inl, inr, of_z, sym, ap, ◌∙◌, subst, to_z, w64}
+use Rattle.std.proofs.Common.{◌+ℤ◌, ℤ, not, int_lt, int_eq, inl, inr, of_z, sym, ap, ◌∙◌, subst, to_z, w64}
 use Rattle.std.proofs.lemmas.Int.{to_z-of_z}
 use Rattle.palm_domain.specs.Rows.{initial_of}
 use Rattle.palm_filter.specs.Rules.{declared_passing, written}

@@ -1,7 +1,7 @@
 use Rattle.std.proofs.Common.{◌+◌, ◌++◌, ap, arith, subst, sym}
 use Rattle.palm_base.specs.Order.{IsPartedAt, Rises}
 use Rattle.palm_model.specs.Log.{cids_of}
-use Rattle.palm_engine.specs.Posted.{Roomy, active_of, actives_of, is_decision}
+use Rattle.palm_engine.specs.Posted.{active_of, actives_of, is_decision}
 use Rattle.palm_engine.proofs.Parts.{parted_behind, parted_front, rises_behind, rises_front}
 use Rattle.palm_engine.proofs.Placing.{parted_decisions}
 use Rattle.palm_engine.proofs.actives.Actives.decisions.Goals as goal

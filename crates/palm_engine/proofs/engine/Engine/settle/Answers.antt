@@ -1,4 +1,4 @@
-use Rattle.std.proofs.Common.{◌≡◌, ℕ, ◌+◌, ◌-◌, ◌≤◌, min, Bool, List, Option, Result, IfOk, OnErr, ◌∷◌, [], is_some, refl, sym, ap, ◌∙◌, subst, arith}
+use Rattle.std.proofs.Common.{◌≡◌, ℕ, ◌+◌, ◌-◌, ◌≤◌, min, Bool, List, Option, Result, IfOk, OnErr, is_some, refl, sym, ap, ◌∙◌, subst, arith}
 use Rattle.palm_base.specs.declared.errors.NoMemory.{NoMemory}
 use Rattle.palm_base.specs.declared.limits.TheConstants.{LAST_COUNT}
 use Rattle.palm_base.specs.declared.terms.Cid.{Cid}
@@ -6,10 +6,9 @@ use Rattle.palm_model.specs.State.{EngineState}
 use Rattle.palm_engine.specs.declared.filtering.Filtering.{Filtering}
 use Rattle.palm_engine.specs.Engine.{View, HasAsked}
 use Rattle.palm_engine.specs.Following.{Hearing, IsInterruptedBy, OrderAnswers, OrderFollows}
-use Rattle.palm_engine.specs.Kept.{IsInStep, state_of, state_in_revision}
+use Rattle.palm_engine.specs.Kept.{state_of, state_in_revision}
 use Rattle.palm_engine.specs.Posted.{actives_of}
-use Rattle.palm_engine.specs.Revising.{HasCounted, HasPartlyRevised, HasRevised, IsTaken, TakesNext, TakesNone}
-use Rattle.palm_engine.specs.Work.{named_sizes}
+use Rattle.palm_engine.specs.Revising.{HasPartlyRevised, HasRevised, TakesNext, TakesNone}
 use Rattle.palm_engine.proofs.Passing.{hears_none, run_passed}
 use Rattle.palm_engine.proofs.Progress.{on_err_of}
 use Rattle.palm_engine.proofs.Running.{HasRunBy, HasTried, run_start, run_more, run_falls, run_settled, run_asked, run_stopped, taken_is, stopped_engine, stopped_asked, tried_checks}

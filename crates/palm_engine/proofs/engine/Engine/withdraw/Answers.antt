@@ -1,4 +1,4 @@
-use Rattle.std.proofs.Common.{◌≡◌, Contains, Some, ap, slice_get, subst, ◌∙◌}
+use Rattle.std.proofs.Common.{◌≡◌, Some, ap, slice_get, ◌∙◌}
 use Rattle.palm_model.specs.Log.{Active}
 use Rattle.palm_model.specs.Event.{Withdraws}
 use Rattle.palm_engine.specs.Kept.{IsEngine, state_of}
