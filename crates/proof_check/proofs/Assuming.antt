@@ -1,5 +1,5 @@
 -- What is assumed, by variables.
-use Rattle.std.proofs.Common.{◌≡◌, ℕ, zero, suc, ℤ, ◌+◌, ◌-◌, ◌<◌, Bool, true, false, Option, Some, None, option_map, replicate, List, [], ◌∷◌, ◌++◌, length, get_or, take, take_all, drop, append-nil, map, All, Contains, inl, inr, refl, sym, ap, ◌∙◌, subst, arith, slice_get}
+use Rattle.std.proofs.Common.{◌≡◌, ℕ, zero, suc, ℤ, ◌+◌, ◌-◌, ◌<◌, Bool, Option, Some, None, option_map, replicate, List, [], ◌∷◌, ◌++◌, length, get_or, take, take_all, drop, append-nil, map, Contains, inl, inr, refl, sym, ap, ◌∙◌, subst, arith, slice_get}
 use Rattle.palm_base.specs.Tells.{Tells}
 use Rattle.palm_base.proofs.cited.Telling.{tells_same}
 use Rattle.std.proofs.lemmas.Bool.{cases_eq}
