@@ -16,6 +16,7 @@ use Rattle.palm_domain.specs.Rows.{IsLeastOf, IsNextFrom}
 use Rattle.palm_domain.proofs.cited.Ascending.{Ascends-cons, first_below, same_ascending}
 use Rattle.palm_domain.proofs.cited.Comparisons.{lt_from_int_lt, ge_from_int_lt, int_lt_from_lt, int_lt_from_ge}
 use Rattle.palm_model.specs.Support.{IsSupported}
+pub use Rattle.palm_engine.specs.Advancing.{IsNextAt}
 pub use Rattle.palm_engine.specs.Advancing.{IsBefore, values_below, values_from, values_before}
 use Rattle.palm_engine.specs.Settling.{Walks}
 use Rattle.palm_engine.proofs.Counting.{length_filter_lt}
@@ -129,10 +130,6 @@ pub supported_past : (a : Active) (x : ℕ) (vs : List ℤ) (s : EngineState) �
 supported_past a x vs s supported = walk_past a (pairs_of x vs) s (λ p m has.
     let r = member_unmap (λ v. pair_of x v) vs p m in
     subst (λ (q : Pair). IsSupported (present s) a.con q.var q.value) r.2 (supported r.0 r.1 (subst (λ (q : Pair). Has (present s) q.var q.value) (sym r.2) has)))
-
--- what is known of the next present value from the bound on
-abbrev pub IsNextAt : Option ℤ → List ℤ → ℤ → Type 0
-IsNextAt next vs low = MatchOption next ((w : ℤ) → Contains vs w → w <ℤ low) (IsNextFrom vs low)
 
 -- a walk over the values below the bound goes on to the next present one
 pub walk_next : (a : Active) (x : ℕ) (s : EngineState) (n : ℕ) (t : EngineState) (vs : List ℤ) (low : ℤ) (next : Option ℤ) → Ascends vs

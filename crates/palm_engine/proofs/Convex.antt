@@ -3,7 +3,7 @@ use Rattle.std.proofs.Common.{◌≡◌, ℕ, ◌+◌, ◌≤◌, ◌<◌, ℤ, 
 use Rattle.std.specs.Option.{unwrap_or}
 use Rattle.std.proofs.lemmas.Int.{ints}
 use Rattle.std.proofs.lemmas.Bool.{not-true}
-use Rattle.palm_base.proofs.cited.Members.{int_known}
+use Rattle.palm_base.proofs.cited.Members.{int_known, member_here, member_nil, member_single}
 use Rattle.palm_domain.specs.Rows.{Row, IsGreatestOf, IsLastBefore, LosesPair, initial_of, present_of, present_values}
 use Rattle.palm_domain.proofs.cited.Comparisons.{lt_from_int_lt, ge_from_int_lt, int_lt_from_lt, int_lt_from_ge}
 use Rattle.palm_filter.specs.Shapes.{IsConvex}
@@ -15,7 +15,7 @@ use Rattle.palm_model.proofs.cited.Without.{pair_of}
 use Rattle.palm_events.proofs.cited.Agreeing.{lacks_in}
 use Rattle.palm_engine.specs.declared.filtering.Filtering.{Filtering}
 use Rattle.palm_engine.specs.Kept.{state_in_revision}
-use Rattle.palm_engine.specs.Advancing.{Advanced, LacksAbove, LacksFrom, values_below, values_before, values_from, IsBefore}
+use Rattle.palm_engine.specs.Advancing.{Advanced, IsLater, LacksAbove, LacksFrom, TakenFrom, values_below, values_before, values_from, IsBefore}
 use Rattle.palm_engine.specs.Revising.{IsRevising, Walked, HasCounted}
 use Rattle.palm_engine.specs.Work.{asks_of}
 use Rattle.palm_engine.proofs.Counting.{length_filter_le, length_filter_lt}
@@ -170,13 +170,13 @@ present_inside active owner x v now after r q one y w has =
     (subst (λ d. Has d y w) (sym (present_is after active owner.cid q.kept)) has))
 
 -- what lacks support lacks it after one of these values is gone
-pub lacks_on : (active : List Active) (owner : Active) (x : ℕ) (v : ℤ) (next : Option ℤ) (now after : Filtering) → IsRevising now active owner → IsRevising after active owner → Walked active owner (pair_of x v ∷ []) now after
-    → LacksFrom now owner x (Some v) → IsNextAt next (present_values after.store x) (v +ℤ pos 1) → LacksFrom after owner x next
-lacks_on active owner x v None now after r q one lacks none = tt
-lacks_on active owner x v (Some w) now after r q one lacks next = λ u has ge.
+pub lacks_on : (active : List Active) (owner : Active) (x : ℕ) (v : ℤ) (until next : Option ℤ) (now after : Filtering) → IsRevising now active owner → IsRevising after active owner → Walked active owner (pair_of x v ∷ []) now after
+    → LacksFrom now owner x until (Some v) → IsNextAt next (present_values after.store x) (v +ℤ pos 1) → LacksFrom after owner x until next
+lacks_on active owner x v until None now after r q one lacks none = tt
+lacks_on active owner x v until (Some w) now after r q one lacks next = λ u has ge before.
     let inside = present_inside active owner x v now after r q one in
     let from = next.from in
-    lacks_in (present_of now.store) (present_of after.store) owner.con x u (λ y z m here. inside y z here) (lacks u (inside x u has) (omega (arith, ints, ge, from)))
+    lacks_in (present_of now.store) (present_of after.store) owner.con x u (λ y z m here. inside y z here) (lacks u (inside x u has) (omega (arith, ints, ge, from)) before)
 
 -- the values between two that have support are passed
 pub between_passed : (active : List Active) (owner : Active) (x : ℕ) (first last : ℤ) (next : Option ℤ) (before now : Filtering) → Advanced active owner x (Some first) before now → first ≤ℤ last
@@ -202,9 +202,9 @@ between_passed active owner x first last next before now w le low high convex is
     upto u None none has is = let lt = none u has in omega (arith, ints, lt)
 
 -- those above the last one with support lack it
-pub lacks_above : (owner : Active) (x : ℕ) (last : ℤ) (next : Option ℤ) (f : Filtering) → LacksAbove f owner x last → IsNextAt next (present_values f.store x) (last +ℤ pos 1) → LacksFrom f owner x next
+pub lacks_above : (owner : Active) (x : ℕ) (last : ℤ) (next : Option ℤ) (f : Filtering) → LacksAbove f owner x last → IsNextAt next (present_values f.store x) (last +ℤ pos 1) → LacksFrom f owner x None next
 lacks_above owner x last None f lacks none = tt
-lacks_above owner x last (Some w) f lacks next = λ u has ge. let from = next.from in lacks u has (omega (arith, ints, ge, from))
+lacks_above owner x last (Some w) f lacks next = λ u has ge before. let from = next.from in lacks u has (omega (arith, ints, ge, from))
 
 -- after both were found the walk goes on above the last one
 pub ends_advanced : (active : List Active) (owner : Active) (x : ℕ) (first last : ℤ) (next : Option ℤ) (before now after : Filtering) → Advanced active owner x (Some first) before now → after ≡ record now { checks = after.checks } → first ≤ℤ last
@@ -218,7 +218,7 @@ ends_advanced active owner x first last next before now after w same le low high
 
 -- and what is left lacks support
 pub ends_lacking : (owner : Active) (x : ℕ) (last : ℤ) (next : Option ℤ) (now after : Filtering) → after ≡ record now { checks = after.checks } → LacksAbove now owner x last
-    → IsNextAt next (present_values after.store x) (last +ℤ pos 1) → LacksFrom after owner x next
+    → IsNextAt next (present_values after.store x) (last +ℤ pos 1) → LacksFrom after owner x None next
 ends_lacking owner x last next now after same lacks is_next =
     let lacks' = subst (λ (f : Filtering). LacksAbove f owner x last) (sym same) (above_checks now after.checks lacks) in
     lacks_above owner x last next after lacks' is_next
@@ -248,37 +248,49 @@ ends_counted active owner x first before now after end s t u w low high same ask
 
 -- ---- those above the last one
 
--- how far the values that lack support were taken out
-pub record TakenFrom (owner : Active) (x : ℕ) (from next : Option ℤ) (before now : Filtering) : Type 0 where
-  pub advanced : (active : List Active) (start : Filtering) → Advanced active owner x from start before → Advanced active owner x next start now
-  pub revising : (active : List Active) → IsRevising before active owner → IsRevising now active owner
-  pub lacking : LacksFrom now owner x next
-  pub checks : now.checks ≡ before.checks
-
 -- at the first of them none was taken out
-pub taken_start : (owner : Active) (x : ℕ) (from : Option ℤ) (f : Filtering) → LacksFrom f owner x from → TakenFrom owner x from from f f
-taken_start owner x from f lacks = record { advanced = λ active start w. w; revising = λ active r. r; lacking = lacks; checks = refl }
+pub taken_start : (owner : Active) (x : ℕ) (until from : Option ℤ) (f : Filtering) → LacksFrom f owner x until from → TakenFrom owner x until from from f f
+taken_start owner x until from f lacks = record { advanced = λ active start w. w; revising = λ active r. r; lacking = lacks; checks = refl }
+
+-- one part after another
+pub taken_then : (owner : Active) (x : ℕ) (until from middle next : Option ℤ) (before now after : Filtering) → TakenFrom owner x until from middle before now → TakenFrom owner x until middle next now after → TakenFrom owner x until from next before after
+taken_then owner x until from middle next before now after first second = record {
+  advanced = λ active start w. second.advanced active start (first.advanced active start w);
+  revising = λ active r. second.revising active (first.revising active r);
+  lacking = second.lacking;
+  checks = second.checks ∙ first.checks;
+}
 
 -- one of them is taken out
-pub taken_more : (owner : Active) (x : ℕ) (v : ℤ) (from next : Option ℤ) (before now after : Filtering) → TakenFrom owner x from (Some v) before now
+pub taken_more : (owner : Active) (x : ℕ) (v : ℤ) (until from next : Option ℤ) (before now after : Filtering) → TakenFrom owner x until from (Some v) before now
     → ((active : List Active) → IsRevising now active owner → Walked active owner (pair_of x v ∷ []) now after) → ((active : List Active) → IsRevising now active owner → IsRevising after active owner)
     → LosesPair now.store after.store x v → after.checks ≡ now.checks → IsNextAt next (present_values after.store x) (v +ℤ pos 1)
-    → (active : List Active) × (start : Filtering) × Advanced active owner x from start before → TakenFrom owner x from next before after
-taken_more owner x v from next before now after t walked revising loses checks is_next some =
+    → (active : List Active) × (start : Filtering) × Advanced active owner x from start before → TakenFrom owner x until from next before after
+taken_more owner x v until from next before now after t walked revising loses checks is_next some =
     let r = (t.advanced some.0 some.1 some.2).revising in
     record {
       advanced = λ active start w.
           let at = t.advanced active start w in
           values_more active owner x v next start now after at (walked active at.revising) (revising active at.revising) (λ has. absurd (loses.gone has)) is_next;
       revising = λ active r. revising active (t.revising active r);
-      lacking = lacks_on some.0 owner x v next now after r (revising some.0 r) (walked some.0 r) t.lacking is_next;
+      lacking = lacks_on some.0 owner x v until next now after r (revising some.0 r) (walked some.0 r) t.lacking is_next;
       checks = checks ∙ t.checks;
     }
 
--- and fewer are left
-pub taken_fewer : (owner : Active) (x : ℕ) (v : ℤ) (from next : Option ℤ) (before now : Filtering) (here : List ℤ) → TakenFrom owner x from (Some v) before now → IsNextAt next here (v +ℤ pos 1)
+-- one of them is less
+taken_fewer : (owner : Active) (x : ℕ) (v : ℤ) (until from next : Option ℤ) (before now : Filtering) (here : List ℤ) → TakenFrom owner x until from (Some v) before now → IsNextAt next here (v +ℤ pos 1)
     → (active : List Active) × (start : Filtering) × Advanced active owner x from start before
     → left_from next (values_of (initial_of before.store) x) < left_from (Some v) (values_of (initial_of before.store) x)
-taken_fewer owner x v from next before now here t is_next some =
+taken_fewer owner x v until from next before now here t is_next some =
     let e = walked_initial some.0 owner (pairs_of x (values_before from (values_of (initial_of some.1.store) x))) some.1 before some.2.walked in
     subst (λ (d : Domains). left_from next (values_of d x) < left_from (Some v) (values_of d x)) (sym e) (values_fewer some.0 owner x v next some.1 now here (t.advanced some.0 some.1 some.2) is_next)
+
+-- a later one stands next to the value in some list
+next_somewhere : (v : ℤ) (next : Option ℤ) → IsLater v next → (here : List ℤ) × IsNextAt next here (v +ℤ pos 1)
+next_somewhere v (Some w) later = (w ∷ [], record { member = member_here w []; from = omega (arith, ints, later); least = λ u m ge. let same = member_single w u m in omega (arith, ints, same) })
+next_somewhere v None later = ([], λ w m. absurd (member_nil w m))
+
+-- and fewer are left
+pub later_fewer : (owner : Active) (x : ℕ) (v : ℤ) (until from next : Option ℤ) (before now : Filtering) → TakenFrom owner x until from (Some v) before now → IsLater v next → (active : List Active) × (start : Filtering) × Advanced active owner x from start before
+    → left_from next (values_of (initial_of before.store) x) < left_from (Some v) (values_of (initial_of before.store) x)
+later_fewer owner x v until from next before now t later some = let some_next = next_somewhere v next later in taken_fewer owner x v until from next before now some_next.0 t some_next.1 some

@@ -1,5 +1,5 @@
 -- A rule that a walk knows stays known while values of its own variable go.
-use Rattle.std.proofs.Common.{◌≡◌, ℕ, ◌<◌, ℤ, ◌≤ℤ◌, Option, Some, None, IfSome, MatchOption, pos, ◌+ℤ◌, ◌<ℤ◌, List, length, Contains, sym, ap, ◌∙◌, subst, arith}
+use Rattle.std.proofs.Common.{◌≡◌, ℕ, ◌<◌, ℤ, ◌≤ℤ◌, Bool, true, Option, Some, None, IfSome, IfOk, OnOk, Result, Ok, Err, MatchOption, pos, ◌+ℤ◌, ◌<ℤ◌, List, length, Contains, sym, ap, ◌∙◌, subst, arith}
 use Rattle.std.specs.Bool.{⊤}
 use Rattle.std.proofs.lemmas.Int.{ints}
 use Rattle.palm_base.specs.declared.terms.Pair.{Pair}
@@ -17,15 +17,12 @@ use Rattle.palm_model.proofs.cited.Ascending.{ascending_same, ascends_at}
 use Rattle.palm_model.proofs.cited.Reasons.{filled_value}
 use Rattle.palm_model.proofs.cited.Without.{ascend_without, without_inside}
 use Rattle.palm_explain.specs.Explanations.{LacksExactly}
-use Rattle.palm_explain.specs.declared.spans.Span.{Span}
-use Rattle.palm_filter.specs.Rules.{FitsRule, listed_pairs, written}
-use Rattle.palm_filter.specs.declared.rule.Interval.{Interval}
-use Rattle.palm_filter.specs.declared.rule.Known.{Known}
-use Rattle.palm_filter.specs.declared.rule.Rule.TheVariants.{Listed}
+use Rattle.palm_explain.specs.Moving.{spans_at}
+use Rattle.palm_explain.specs.declared.moving.MovingSpan.{MovingSpan}
 use Rattle.palm_engine.specs.declared.filtering.Filtering.{Filtering}
 use Rattle.palm_engine.specs.declared.reasons.ReasonRoom.{ReasonRoom}
 use Rattle.palm_engine.specs.Changed.{TakesOut}
-use Rattle.palm_engine.specs.Reasons.{IsKnown, IsToldBy, Knows}
+use Rattle.palm_engine.specs.Reasons.{Covers, IsKnown, IsToldBy, Knows, TellsReason}
 use Rattle.palm_engine.specs.Revising.{IsRevising}
 use Rattle.palm_engine.proofs.Own.{AgreeBut, own}
 use Rattle.palm_engine.proofs.Revised.{some_length}
@@ -69,37 +66,38 @@ module _ (rows after : List Row) (x : ℕ) (v : ℤ) (same : initial_of after �
     filled = filled_before (scope c) wants.filled;
   }
 
-  fits_still : (c : Con) (from : ℤ) (known : Known) (intervals : List Interval) → FitsRule (initial_of rows) (present_of rows) c x from known intervals → FitsRule (initial_of after) (present_of after) c x from known intervals
-  fits_still c from known intervals fits w ge le wants =
-      let before = wanted c w wants in
-      let stays = own (initial_of rows) (present_of rows) (present_of after) x w agree before.present_value wants.present_value c before.formed.distinct in
-      subst (λ (d : Domains). written d c known.rule intervals x w ≡ reason d (present_of after) c x w) (sym same) (fits w ge le before ∙ stays)
-
-  known_still : (c : Con) (from : ℤ) (room : ReasonRoom) (known : Option Known) → IfSome known (λ k. IsKnown rows c x from k room.intervals.items room.spans.items) → IfSome known (λ k. IsKnown after c x from k room.intervals.items room.spans.items)
-  known_still c from room (Some k) is = record {
-    fits = fits_still c from k room.intervals.items is.fits;
-    listed = λ e. subst (λ (d : Domains). IsToldBy d (listed_pairs d room.intervals.items) room.spans.items) (sym same) (is.listed e);
+  known_still : (c : Con) (from last : ℤ) (spans : List MovingSpan) → IsKnown rows c x from last spans → IsKnown after c x from last spans
+  known_still c from last spans is = record {
+    told = λ w ge le wants.
+        let before = wanted c w wants in
+        let stays = own (initial_of rows) (present_of rows) (present_of after) x w agree before.present_value wants.present_value c before.formed.distinct in
+        subst (λ (d : Domains). IsToldBy d (reason d (present_of after) c x w) (spans_at spans w)) (sym same) (subst (λ rs. IsToldBy (initial_of rows) rs (spans_at spans w)) stays (is.told w ge le before));
+    fits = is.fits;
   }
-  known_still c from room None none = tt
 
--- ---- a rule of a value
+  knows_after : (c : Con) (from : ℤ) (room : ReasonRoom) (known : Option ℤ) → IfSome known (λ last. IsKnown rows c x from last room.spans.items) → IfSome known (λ last. IsKnown after c x from last room.spans.items)
+  knows_after c from room (Some last) is = known_still c from last room.spans.items is
+  knows_after c from room None none = tt
 
--- a rule stays known where the spans of a list stay
-pub known_on : (rows : List Row) (c : Con) (x : ℕ) (v : ℤ) (known : Known) (intervals : List Interval) (spans now : List Span) → (known.rule ≡ Listed → now ≡ spans) → IsKnown rows c x v known intervals spans → IsKnown rows c x v known intervals now
-known_on rows c x v known intervals spans now stay k = record {
-  fits = k.fits;
-  listed = λ e. subst (λ ss. IsToldBy (initial_of rows) (listed_pairs (initial_of rows) intervals) ss) (sym (stay e)) (k.listed e);
-}
+-- ---- what is known of a value
 
-pub covered_last : (v : ℤ) (o : Option Known) (known : Known) → o ≡ Some known → (k : Known) × (o ≡ Some k) × (v ≤ℤ k.last) → v ≤ℤ known.last
-covered_last v o known is c = subst (λ (z : Option Known). IfSome z (λ k. v ≤ℤ k.last)) (sym c.1 ∙ is) c.2
+-- spans that are known to stand for the reasons of the value tell it
+pub covered_tells : (rows : List Row) (c : Con) (p : Pair) (room : ReasonRoom) → WantsReason (initial_of rows) (present_of rows) c p.var p.value → Knows rows c p.var p.value room → Covers p.value room → TellsReason rows c p room.spans.items
+covered_tells rows c p room wants knows covers =
+    let is = subst (λ (z : Option ℤ). IfSome z (λ last. IsKnown rows c p.var p.value last room.spans.items)) covers.1 knows in
+    record { told = is.told p.value (omega (arith, ints)) covers.2 wants; fits = is.fits p.value (omega (arith, ints)) covers.2 }
+
+pub learnt_tells : {E : Type 0} (rows : List Row) (c : Con) (p : Pair) (room : ReasonRoom) (r : Result Bool E) → WantsReason (initial_of rows) (present_of rows) c p.var p.value → OnOk r (Knows rows c p.var p.value room) → IfOk r (λ told. told ≡ true → Covers p.value room)
+    → IfOk r (λ told. told ≡ true → TellsReason rows c p room.spans.items)
+learnt_tells rows c p room (Ok told) wants knows covers = λ yes. covered_tells rows c p room wants knows (covers yes)
+learnt_tells rows c p room (Err e) wants knows covers = tt
 
 -- ---- in a revision
 
-present_ascends : (rows : List Row) (pairs : List Pair) → LacksExactly rows pairs → AllAscend (initial_of rows) → AllAscend (present_of rows)
+pub present_ascends : (rows : List Row) (pairs : List Pair) → LacksExactly rows pairs → AllAscend (initial_of rows) → AllAscend (present_of rows)
 present_ascends rows pairs lacks up = subst (λ (d : Domains). AllAscend d) (sym lacks.present) (ascend_without (initial_of rows) pairs up)
 
-present_inside : (rows : List Row) (pairs : List Pair) → LacksExactly rows pairs → IsInside (present_of rows) (initial_of rows)
+pub present_inside : (rows : List Row) (pairs : List Pair) → LacksExactly rows pairs → IsInside (present_of rows) (initial_of rows)
 present_inside rows pairs lacks = subst (λ (d : Domains). IsInside d (initial_of rows)) (sym lacks.present) (without_inside (initial_of rows) pairs)
 
 -- a rule that is known of the values from one on is so after this one was taken out
@@ -107,16 +105,22 @@ pub knows_still : (f : Filtering) (active : List Active) (owner : Active) (p : P
     → Knows f.store owner.con p.var p.value room → Knows g.store owner.con p.var p.value room
 knows_still f active owner p by reasons g room r takes knows =
     let up = r.valid.ascend in
-    known_still f.store g.store p.var p.value takes.initial takes.loses (present_ascends f.store (log_pairs f.log.log) r.kept.removed up)
+    knows_after f.store g.store p.var p.value takes.initial takes.loses (present_ascends f.store (log_pairs f.log.log) r.kept.removed up)
     (present_ascends g.store (log_pairs g.log.log) takes.removed (subst (λ (d : Domains). AllAscend d) (sym takes.initial) up)) (present_inside f.store (log_pairs f.log.log) r.kept.removed)
     owner.con p.value room room.known knows
+
+pub known_later : (rows : List Row) (c : Con) (x : ℕ) (v w last : ℤ) (spans : List MovingSpan) → v ≤ℤ w → IsKnown rows c x v last spans → IsKnown rows c x w last spans
+known_later rows c x v w last spans le is = record {
+  told = λ u ge upto wants. is.told u (omega (arith, ints, le, ge)) upto wants;
+  fits = λ u ge upto. is.fits u (omega (arith, ints, le, ge)) upto;
+}
 
 -- and so of the values from a later one on
 pub knows_later : (rows : List Row) (c : Con) (x : ℕ) (v w : ℤ) (room : ReasonRoom) → v ≤ℤ w → Knows rows c x v room → Knows rows c x w room
 knows_later rows c x v w room le knows = later room.known knows
   where
-    later : (known : Option Known) → IfSome known (λ k. IsKnown rows c x v k room.intervals.items room.spans.items) → IfSome known (λ k. IsKnown rows c x w k room.intervals.items room.spans.items)
-    later (Some k) is = record { fits = λ u ge upto wants. is.fits u (omega (arith, ints, le, ge)) upto wants; listed = is.listed }
+    later : (known : Option ℤ) → IfSome known (λ last. IsKnown rows c x v last room.spans.items) → IfSome known (λ last. IsKnown rows c x w last room.spans.items)
+    later (Some last) is = known_later rows c x v w last room.spans.items le is
     later None none = tt
 
 -- and so of the next one of a walk, and of all of them where no rule is known
@@ -128,3 +132,12 @@ knows_next rows c x v None room none knows = tt
 pub knows_none : (next : Option Placed) → IfSome next (λ p. ⊤)
 knows_none (Some p) = tt
 knows_none None = tt
+
+-- spans that are known of the values from one on are so after this one was taken out
+pub known_on : (f : Filtering) (active : List Active) (owner : Active) (p : Pair) (by : Cid) (reasons : List Pair) (g : Filtering) (last : ℤ) (spans : List MovingSpan) → IsRevising f active owner → TakesOut f p by reasons g
+    → IsKnown f.store owner.con p.var p.value last spans → IsKnown g.store owner.con p.var p.value last spans
+known_on f active owner p by reasons g last spans r takes known =
+    let up = r.valid.ascend in
+    known_still f.store g.store p.var p.value takes.initial takes.loses (present_ascends f.store (log_pairs f.log.log) r.kept.removed up)
+    (present_ascends g.store (log_pairs g.log.log) takes.removed (subst (λ (d : Domains). AllAscend d) (sym takes.initial) up)) (present_inside f.store (log_pairs f.log.log) r.kept.removed)
+    owner.con p.value last spans known

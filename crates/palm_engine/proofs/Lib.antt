@@ -10,9 +10,11 @@ pub mod Fitting
 pub mod Gathering
 pub mod Hits
 pub mod HitWalk
+pub mod InTurn
 pub mod Joined
 pub mod Keeping
 pub mod Knowing
+pub mod LosingEach
 pub mod Marking
 pub mod Others
 pub mod Own
@@ -27,6 +29,7 @@ pub mod Quiet
 pub mod Removers
 pub mod Restoring
 pub mod Revised
+pub mod RunWalks
 pub mod Running
 pub mod Same
 pub mod Scopes

@@ -406,6 +406,10 @@ pub on_err : {T E P Q : Type 0} (r : Result T E) → (P → Q) → OnErr r P →
 on_err (Ok x) f p = tt
 on_err (Err e) f p = f p
 
+pub both_ok : {T E P Q R : Type 0} (r : Result T E) → (P → Q → R) → OnOk r P → OnOk r Q → OnOk r R
+both_ok (Ok x) f p q = f p q
+both_ok (Err e) f p q = tt
+
 pub on_either : {T E P Q R : Type 0} (r : Result T E) → (P → R) → (Q → R) → OnOk r P → OnErr r Q → R
 on_either (Ok x) f g p q = f p
 on_either (Err e) f g p q = g q
@@ -414,7 +418,7 @@ pub on_err_of : {T E P : Type 0} (r : Result T E) → P → OnErr r P
 on_err_of (Ok x) p = tt
 on_err_of (Err e) p = p
 
-takes_stated : (owner : Active) (p : Pair) (f g : Filtering) (by : Cid) (reasons : List Pair) → by ≡ owner.cid → reasons ≡ stated f owner p → TakesOut f p by reasons g → TakesOut f p owner.cid (stated f owner p) g
+pub takes_stated : (owner : Active) (p : Pair) (f g : Filtering) (by : Cid) (reasons : List Pair) → by ≡ owner.cid → reasons ≡ stated f owner p → TakesOut f p by reasons g → TakesOut f p owner.cid (stated f owner p) g
 takes_stated owner p f g by reasons named are takes = subst (λ c. TakesOut f p c (stated f owner p) g) named (subst (λ ps. TakesOut f p by ps g) are takes)
 
 pub taken_walked : (active : List Active) (owner : Active) (p : Pair) (f g : Filtering) (by : Cid) (reasons : List Pair) → IsRevising f active owner → AllFilled (present_of f.store) → Has (present_of f.store) p.var p.value

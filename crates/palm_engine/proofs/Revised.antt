@@ -18,7 +18,8 @@ use Rattle.palm_events.proofs.cited.Reasons.{reasons_right, removal_right}
 use Rattle.palm_events.proofs.cited.Valid.{active_declared, has_removed}
 use Rattle.palm_agenda.specs.Agenda.{IsOver as IsOverConnected, mark_others}
 use Rattle.palm_explain.specs.Explanations.{AreSpanned}
-use Rattle.palm_explain.specs.declared.spans.Span.{Span}
+use Rattle.palm_explain.specs.Moving.{spans_at}
+use Rattle.palm_explain.specs.declared.moving.MovingSpan.{MovingSpan}
 use Rattle.palm_engine.specs.Reasons.{IsToldBy}
 use Rattle.palm_engine.specs.declared.filtering.Filtering.{Filtering}
 use Rattle.palm_engine.specs.Settling.{Walks}
@@ -193,6 +194,6 @@ reasons_logged f active owner p r filled has lacks q m =
 
 -- and spans that stand for them where they were taken out do so
 pub reasons_told : (f : Filtering) (active : List Active) (owner : Active) (p : Pair) → IsRevising f active owner → AllFilled (present_of f.store) → Has (present_of f.store) p.var p.value → LacksSupport (present_of f.store) owner.con p.var p.value
-    → (spans out : List Span) → spans ≡ out → IsToldBy (initial_of f.store) (stated f owner p) out → AreSpanned (log_pairs f.log.log) spans (stated f owner p)
+    → (spans out : List MovingSpan) → spans ≡ out → IsToldBy (initial_of f.store) (stated f owner p) (spans_at out p.value) → AreSpanned (log_pairs f.log.log) (spans_at spans p.value) (stated f owner p)
 reasons_told f active owner p r filled has lacks spans out e told =
-    subst (λ ss. AreSpanned (log_pairs f.log.log) ss (stated f owner p)) (sym e) (told (log_pairs f.log.log) r.kept.removed.declared (reasons_logged f active owner p r filled has lacks))
+    subst (λ ss. AreSpanned (log_pairs f.log.log) (spans_at ss p.value) (stated f owner p)) (sym e) (told (log_pairs f.log.log) r.kept.removed.declared (reasons_logged f active owner p r filled has lacks))

@@ -13,16 +13,14 @@ use Rattle.palm_explain.specs.Entries.{pairs_with}
 use Rattle.palm_explain.specs.Explanations.{AreSpanned, IsSpanOf}
 use Rattle.palm_explain.specs.Explanations.AreSpanned.{spans_end, spans_on}
 use Rattle.palm_explain.specs.declared.spans.Span.{Span}
-use Rattle.palm_filter.specs.Rules.{FitsRule, interval_pairs, listed_pairs, written}
+use Rattle.palm_filter.specs.Rules.{interval_pairs, listed_pairs}
 use Rattle.palm_filter.specs.declared.rule.Interval.{Interval}
-use Rattle.palm_filter.specs.declared.rule.Known.{Known}
-use Rattle.palm_model.specs.Constraint.{IsFormed, IsWellFormed, scope}
+use Rattle.palm_model.specs.Constraint.{IsFormed, IsWellFormed}
 use Rattle.palm_model.specs.Domains.{Domains, Has}
-use Rattle.palm_model.specs.Reason.{AreFilled, reason}
-use Rattle.palm_model.specs.Support.{LacksSupport}
+use Rattle.palm_model.specs.Reason.{WantsReason}
 use Rattle.palm_model.specs.declared.constraint.Con.{Con}
 use Rattle.palm_model.proofs.cited.Formed.{well_formed_formed}
-use Rattle.palm_engine.specs.Reasons.{IsRun, values_in}
+use Rattle.palm_engine.specs.Reasons.{Goes, IsRun, values_in}
 
 -- ---- a part of ascending values
 
@@ -137,17 +135,15 @@ one_listed d intervals k i lt at p m = member_flat_map (λ (j : Interval). inter
 
 -- ---- rules
 
--- the rule of a value, written out, is the value's reason
-pub ruled : (rows : List Row) → All Ascends (initial_of rows) → All Ascends (present_of rows) → ((x : ℕ) (v : ℤ) → IsPresent rows x v → IsDeclared rows x v)
-    → (c : Con) (x : ℕ) (v : ℤ) → IsWellFormed (length rows) c → Has (present_of rows) x v → LacksSupport (present_of rows) c x v → AreFilled (present_of rows) (scope c)
-    → (known : Known) (intervals : List Interval) → v ≤ℤ known.last → FitsRule (initial_of rows) (present_of rows) c x v known intervals → written (initial_of rows) c known.rule intervals x v ≡ reason (initial_of rows) (present_of rows) c x v
-ruled rows initial_ascend present_ascend inside c x v formed present lacks filled known intervals last fits =
-    fits v (omega (arith, ints)) last (record {
-      initial_ascend = initial_ascend;
-      present_ascend = present_ascend;
-      inside = inside;
-      formed = subst (λ n. IsFormed n c) (sym (length-map rows (λ (r : Row). r.initial))) (well_formed_formed (length rows) c formed);
-      present_value = present;
-      lacks = lacks;
-      filled = filled;
-    })
+-- the reason of a value that goes is wanted
+pub goes_wants : (rows : List Row) → All Ascends (initial_of rows) → All Ascends (present_of rows) → ((x : ℕ) (v : ℤ) → IsPresent rows x v → IsDeclared rows x v) → (c : Con) (p : Pair) → IsWellFormed (length rows) c → Goes rows c p
+    → WantsReason (initial_of rows) (present_of rows) c p.var p.value
+goes_wants rows initial_ascend present_ascend inside c p formed goes = record {
+  initial_ascend = initial_ascend;
+  present_ascend = present_ascend;
+  inside = inside;
+  formed = subst (λ n. IsFormed n c) (sym (length-map rows (λ (r : Row). r.initial))) (well_formed_formed (length rows) c formed);
+  present_value = goes.present;
+  lacks = goes.unsupported;
+  filled = goes.filled;
+}

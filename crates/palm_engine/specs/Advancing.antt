@@ -1,8 +1,8 @@
 -- How far a revision has come over the values of a variable.
-use Rattle.std.specs.Prelude.{◌≡◌, ◌≢◌, ◌<ℤ◌, ◌≤ℤ◌, ⊤, ℕ, ℤ, not, Option, Some, None, IfSome, List, All, filter, length, Contains, ◌<◌, int_lt}
+use Rattle.std.specs.Prelude.{◌≡◌, ◌≢◌, ◌<ℤ◌, ◌≤ℤ◌, ⊤, ℕ, ℤ, not, Option, Some, None, IfSome, MatchOption, pos, ◌+ℤ◌, List, [], ◌∷◌, All, filter, length, Contains, ◌<◌, int_lt}
 use Rattle.std.specs.Int.{int_min}
 use Rattle.std.specs.Ordering.{int_eq}
-use Rattle.palm_domain.specs.Rows.{Row, initial_of, present_of}
+use Rattle.palm_domain.specs.Rows.{IsNextFrom, Row, initial_of, present_of}
 use Rattle.palm_domain.specs.declared.placed.Placed.{Placed}
 use Rattle.palm_model.specs.Domains.{Domains, Has, values_of}
 use Rattle.palm_filter.specs.Shapes.{LeavesFree}
@@ -12,7 +12,9 @@ use Rattle.palm_model.specs.State.{IsEmptyAt}
 use Rattle.palm_model.specs.Support.{IsSupported, LacksSupport}
 use Rattle.palm_agenda.specs.declared.mark.Mark.{Mark}
 use Rattle.palm_agenda.specs.Marks.{MayLack}
+use Rattle.palm_engine.specs.Reasons.{Covers}
 use Rattle.palm_engine.specs.Revising.{IsRevising, Walked}
+use Rattle.palm_engine.specs.declared.reasons.ReasonRoom.{ReasonRoom}
 use Rattle.palm_engine.specs.declared.filtering.Filtering.{Filtering}
 
 -- the value of the next one of a walk from place to place
@@ -50,10 +52,39 @@ pub record Advanced (active : List Active) (owner : Active) (x : ℕ) (next : Op
 abbrev pub LacksAbove : Filtering → Active → ℕ → ℤ → Type 0
 LacksAbove f owner x last = (v : ℤ) → Has (present_of f.store) x v → last <ℤ v → LacksSupport (present_of f.store) owner.con x v
 
--- every present value of the variable from the next one on lacks support
-abbrev pub LacksFrom : Filtering → Active → ℕ → Option ℤ → Type 0
-LacksFrom f owner x None = ⊤
-LacksFrom f owner x (Some low) = (v : ℤ) → Has (present_of f.store) x v → low ≤ℤ v → LacksSupport (present_of f.store) owner.con x v
+-- every present value of the variable from the next one on, and before the one that has support, if there is one, lacks it
+abbrev pub LacksFrom : Filtering → Active → ℕ → Option ℤ → Option ℤ → Type 0
+LacksFrom f owner x until None = ⊤
+LacksFrom f owner x until (Some low) = (v : ℤ) → Has (present_of f.store) x v → low ≤ℤ v → IsBefore until v → LacksSupport (present_of f.store) owner.con x v
+
+-- the least one of these values from the bound on, if there is one
+abbrev pub IsNextAt : Option ℤ → List ℤ → ℤ → Type 0
+IsNextAt next vs low = MatchOption next ((w : ℤ) → Contains vs w → w <ℤ low) (IsNextFrom vs low)
+
+-- the next one, if there is one, is above the value
+abbrev pub IsLater : ℤ → Option ℤ → Type 0
+IsLater v next = IfSome next (λ w. v <ℤ w)
+
+-- behind the value the others of the list are the next ones of these values, one after another, and then comes this one
+abbrev pub AreInTurn : List ℤ → ℤ → List ℤ → Option ℤ → Type 0
+AreInTurn here v [] next = IsNextAt next here (v +ℤ pos 1)
+AreInTurn here v (w ∷ rest) next = IsNextAt (Some w) here (v +ℤ pos 1) × AreInTurn here w rest next
+
+-- how far the values that lack support were taken out
+pub record TakenFrom (owner : Active) (x : ℕ) (until from next : Option ℤ) (before now : Filtering) : Type 0 where
+  pub advanced : (active : List Active) (start : Filtering) → Advanced active owner x from start before → Advanced active owner x next start now
+  pub revising : (active : List Active) → IsRevising before active owner → IsRevising now active owner
+  pub lacking : LacksFrom now owner x until next
+  pub checks : now.checks ≡ before.checks
+
+-- the room has gathered this value and the next ones of these values, up to before the next one that is left: those behind it are before
+-- the other bound and covered by what the room knows
+pub record HasGathered (here : List ℤ) (v : ℤ) (next until : Option ℤ) (room : ReasonRoom) : Type 0 where
+  pub rest : List ℤ
+  pub values : room.values.items ≡ v ∷ rest
+  pub turn : AreInTurn here v rest next
+  pub before : (w : ℤ) → Contains rest w → IsBefore until w
+  pub covered : (w : ℤ) → Contains rest w → Covers w room
 
 -- every present value of the variable that the mark leaves out has support
 abbrev pub AreSupportedUnless : Mark → Filtering → Active → ℕ → Type 0

@@ -6,11 +6,11 @@ use Rattle.palm_base.specs.Tells.{Tells}
 use Rattle.palm_domain.specs.Rows.{Ascends, LosesPair, Row, initial_of, present_of, present_values, values_without}
 use Rattle.palm_domain.specs.declared.limits.TheConstants.{MOST_VALUES}
 use Rattle.palm_model.specs.Domains.{Domains, values_of}
-use Rattle.palm_model.specs.Log.{Loses, log_pairs}
+use Rattle.palm_model.specs.Log.{Loses, Removal, log_pairs}
 use Rattle.palm_model.specs.State.{without_cid}
 use Rattle.palm_model.specs.Event.{lost_pairs, vars_of}
 use Rattle.palm_explain.specs.declared.restored.Restored.{Restored}
-use Rattle.palm_explain.specs.Explanations.{IsSpanned, LacksExactly, restored_vars}
+use Rattle.palm_explain.specs.Explanations.{Explanations, IsSpanned, LacksExactly, restored_vars}
 use Rattle.palm_filter.specs.Heeds.{HasAbove, HasBelow}
 use Rattle.palm_filter.specs.Shapes.{HasTwo}
 use Rattle.palm_agenda.specs.declared.loss.Loss.{Loss}
@@ -58,6 +58,15 @@ pub record HasLost (f : Filtering) (p : Pair) (g : Filtering) : Type 0 where
   pub empty : NotesLoss f.empty g.empty (present_of g.store) p.var
   pub log : g.log ≡ f.log
   pub checks : g.checks ≡ f.checks
+
+-- the values of x are taken out one after another
+abbrev pub HasLostEach : Filtering → ℕ → List ℤ → Filtering → Type 0
+HasLostEach f x [] g = g ≡ f
+HasLostEach f x (v ∷ values) g = (m : Filtering) × HasLost f (record { var = x; value = v }) m × HasLostEach m x values g
+
+-- with these removals behind those of the log
+abbrev pub with_run : Explanations → List Removal → Explanations
+with_run l run = record l { log = l.log ++ run }
 
 -- the pair is taken out under the id and for the reasons, and the constraints over its variable wait
 pub record TakesOut (f : Filtering) (p : Pair) (by : Cid) (reasons : List Pair) (g : Filtering) : Type 0 where

@@ -8,7 +8,7 @@ ghost use Rattle.palm_model.specs.Log.{Active};
 ghost use Rattle.palm_model.specs.Removed.{pairs_of};
 ghost use Rattle.palm_model.specs.State.{AllFilled};
 ghost use Rattle.palm_model.specs.Support.{IsSupported};
-ghost use Rattle.palm_engine.specs.Advancing.{Advanced, LacksAbove, LacksFrom, placed_value, values_below, values_from};
+ghost use Rattle.palm_engine.specs.Advancing.{Advanced, LacksAbove, values_below, values_from};
 ghost use Rattle.palm_engine.specs.Posted.{active_of};
 ghost use Rattle.palm_engine.specs.Revising.{AreSupportedAt, HasCounted, IsRevising, Walked, WalkedPart};
 ghost use Rattle.palm_engine.specs.Work.{asks_of};
@@ -17,6 +17,7 @@ ghost use Rattle.palm_engine.specs.declared.filtering.Filtering.{Filtering as Fi
 use crate::filtering::Filtering;
 use crate::posted::Posted;
 use crate::reasons::ReasonRoom;
+use crate::runs::take_out_from;
 use crate::values::take_out;
 use palm_base::{NoMemory, Pair, Steps, Value, Var};
 use palm_domain::{DomainStore, Placed};
@@ -117,43 +118,6 @@ fn placed_after(store: &DomainStore, var: Var, value: Value) -> Option<Placed>
     } else {
         store.next_placed(var, placed)
     }
-}
-
-/// Takes the present values from this one on out, which are known to lack support.
-fn take_out_from<F: Filter>(
-    filtering: &mut Filtering,
-    constraint: &Posted<F>,
-    var: Var,
-    from: Option<Placed>,
-    room: &mut ReasonRoom,
-) -> Result<(), NoMemory>
-    requires advanced { (active : List Active) × (before : FilteringTerm) ×
-        Advanced active (active_of F.meaning constraint.now) var (placed_value from) before filtering.old }
-    requires over { Contains (scope (active_of F.meaning constraint.now).con) var }
-    requires placed { IfSome from (IsPlaced filtering.old.store var) }
-    requires lacking { LacksFrom filtering.old
-        (active_of F.meaning constraint.now) var (placed_value from) }
-    ensures advanced { (active : List Active) (before : FilteringTerm) → Advanced active
-        (active_of F.meaning constraint.now) var (placed_value from) before filtering.old
-        → OnOk result (Advanced active (active_of F.meaning constraint.now) var None before filtering.new) }
-    ensures part { (active : List Active) (before : FilteringTerm) → Advanced active
-        (active_of F.meaning constraint.now) var (placed_value from) before filtering.old
-        → OnErr result (WalkedPart active (active_of F.meaning constraint.now) (pairs_of var (values_of (initial_of before.store) var)) before filtering.new) }
-    ensures revising { (active : List Active) → IsRevising filtering.old active (active_of F.meaning constraint.now)
-        → IsRevising filtering.new active (active_of F.meaning constraint.now) }
-    ensures checks { filtering.new.checks ≡ filtering.old.checks }
-{
-    room.known = None;
-    let mut next = from;
-    while let Some(placed) = next {
-        let pair = Pair {
-            var,
-            value: placed.value,
-        };
-        take_out(filtering, constraint, pair, room)?;
-        next = filtering.store.next_placed(var, placed);
-    }
-    Ok(())
 }
 
 /// Takes the values of the variable out that lack support, where those that have it lie together.

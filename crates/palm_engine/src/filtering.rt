@@ -1,18 +1,21 @@
 //! The domains, the log and the agenda of an engine, and what changes them together.
-ghost use Rattle.std.specs.Prelude.{◌≡◌, ◌↔◌, ◌⊎◌, ℕ, ◌<◌, List, [], map, length, Contains, None, Some, OnErr, OnOk, IfOk};
+ghost use Rattle.std.specs.Prelude.{◌≡◌, ◌↔◌, ◌⊎◌, ℕ, ℤ, ◌<◌, List, [], map, length, Contains, None, Some, OnErr, OnOk, IfOk};
 ghost use Rattle.palm_base.specs.declared.terms.Cid.{Cid as CidTerm};
 ghost use Rattle.palm_base.specs.declared.terms.Pair.{Pair as PairTerm};
-ghost use Rattle.palm_domain.specs.Rows.{IsPresent, present_of};
-ghost use Rattle.palm_model.specs.Log.{log_pairs};
-ghost use Rattle.palm_explain.specs.Explanations.{AreSpanned, LacksExactly, restored_vars};
+ghost use Rattle.palm_domain.specs.Rows.{Ascends, IsPresent, present_of};
+ghost use Rattle.palm_model.specs.Log.{Removal, log_pairs};
+ghost use Rattle.palm_explain.specs.Explanations.{AreSpanned, IsRunOf, LacksExactly, restored_vars};
+ghost use Rattle.palm_explain.specs.Moving.{AreFitting, FitsSpan, spans_at};
+ghost use Rattle.palm_explain.specs.declared.moving.MovingSpan.{MovingSpan as MovingSpanTerm};
 ghost use Rattle.palm_agenda.specs.Agenda.{IsConnected, IsFormed, IsOver};
-ghost use Rattle.palm_engine.specs.Changed.{HasLost, HasRoomFor, NotesGain, NotesLoss, PutsBack, TakesOut, TellsLoss, widened_by, with_variable};
+ghost use Rattle.palm_engine.specs.Changed.{HasLost, HasLostEach, HasRoomFor, NotesGain, NotesLoss, PutsBack, TakesOut, TellsLoss, widened_by, with_run, with_variable};
 
 use palm_agenda::{Agenda, Loss};
 use palm_base::{Cid, NoMemory, Pair, Value, Var};
 use palm_domain::DomainStore;
-use palm_explain::{ExplainStore, Restored, Span};
+use palm_explain::{ExplainStore, MovingSpan, Restored};
 use std::alloc::Global;
+use std::array;
 
 /// The present values, why the others are gone, and which constraints wait.
 #[derive(Drop)]
@@ -112,24 +115,59 @@ impl Filtering {
         self.store.add_variable(values)
     }
 
-    /// Takes a present value out by this constraint and for the removals that the spans stand for. Without memory nothing changes.
+    /// Takes present values of a variable out by this constraint, each for the removals that the spans stand for at it. Without memory
+    /// nothing changes.
+    pub(crate) fn remove_run(
+        &mut self,
+        var: Var,
+        values: &[Value],
+        by: Cid,
+        spans: &[MovingSpan],
+    ) -> Result<(), NoMemory>
+        requires removed { LacksExactly self.old.store (log_pairs self.old.log.log) }
+        requires ascend { Ascends values.now }
+        requires present { (v : ℤ) → Contains values.now v → IsPresent self.old.store var v }
+        requires fits { AreFitting spans.now values.now }
+        ensures lost { OnOk result
+            (HasLostEach (record self.old { log = self.new.log }) var values.now self.new) }
+        ensures logged { (run : List Removal) → IsRunOf var by spans.now self.old.log.log values.now run
+            → OnOk result (self.new.log ≡ with_run self.old.log run) }
+        ensures err { OnErr result (self.new ≡ self.old) }
+    {
+        self.log.enter_run(var, values, by, spans)?;
+        self.lose_each(var, values);
+        Ok(())
+    }
+
+    /// Takes a present value out by this constraint and for the removals that the spans stand for at it. Without memory nothing
+    /// changes.
     pub(crate) fn remove_for_spans(
         &mut self,
         pair: Pair,
         by: Cid,
-        spans: &[Span],
+        spans: &[MovingSpan],
     ) -> Result<(), NoMemory>
         requires removed { LacksExactly self.old.store (log_pairs self.old.log.log) }
         requires present { IsPresent self.old.store pair.var pair.value }
-        requires spanned { (reasons : List PairTerm) × AreSpanned (log_pairs self.old.log.log) spans.now reasons }
-        ensures ok { (reasons : List PairTerm) → AreSpanned (log_pairs self.old.log.log) spans.now reasons
+        requires fits { (s : MovingSpanTerm) → Contains spans.now s → FitsSpan s pair.value }
+        ensures ok { (reasons : List PairTerm)
+            → AreSpanned (log_pairs self.old.log.log) (spans_at spans.now pair.value) reasons
             → OnOk result (TakesOut self.old pair by reasons self.new) }
         ensures err { OnErr result (self.new ≡ self.old) }
     {
         let Pair { var, value } = pair;
-        self.log.enter_spans(Pair { var, value }, by, spans)?;
-        self.lose(Pair { var, value });
-        Ok(())
+        self.remove_run(var, array::from_ref(&value), by, spans)
+    }
+
+    /// Takes present values of a variable out of its domain, one after another, and tells the agenda.
+    fn lose_each(&mut self, var: Var, values: &[Value])
+        requires ascend { Ascends values.now }
+        requires present { (v : ℤ) → Contains values.now v → IsPresent self.old.store var v }
+        ensures { HasLostEach self.old var values.now self.new }
+    {
+        for value in values {
+            self.lose(Pair { var, value: *value });
+        }
     }
 
     /// Takes a present value out of its domain, and tells the agenda.

@@ -14,6 +14,7 @@ mod posted;
 mod posting;
 mod reasons;
 mod revise;
+mod runs;
 mod settle;
 mod values;
 

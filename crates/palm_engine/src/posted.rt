@@ -13,7 +13,7 @@ ghost use Rattle.palm_explain.specs.CidSets.{Adds};
 ghost use Rattle.palm_filter.specs.Heeds.{FitsHeed};
 ghost use Rattle.palm_filter.specs.Shapes.{FitsShape};
 ghost use Rattle.palm_engine.specs.Posted.{IsInForm, active_of, actives_of, is_decision, is_negation, negated};
-ghost use Rattle.palm_engine.specs.Reasons.{Goes, IsToldBy, Knows, reason_in};
+ghost use Rattle.palm_engine.specs.Reasons.{Goes, Knows, TellsReason};
 ghost use Rattle.palm_engine.specs.Work.{asks_of};
 
 use crate::justification::Justification;
@@ -197,7 +197,7 @@ impl<F: Filter> Posted<F> {
         requires knows { Knows store.now (active_of F.meaning self.now).con pair.now.var
             pair.now.value room.old }
         ensures told { IfOk result (λ told. told ≡ true
-            → IsToldBy (initial_of store.now) (reason_in store.now (active_of F.meaning self.now).con pair.now) room.new.spans.items) }
+            → TellsReason store.now (active_of F.meaning self.now).con pair.now room.new.spans.items) }
         ensures knows { OnOk result (Knows store.now (active_of F.meaning self.now).con
             pair.now.var pair.now.value room.new) }
     {

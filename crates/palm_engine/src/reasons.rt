@@ -1,55 +1,59 @@
 //! The reasons of a removal: as spans of values where the constraint's filter tells a rule of them, and else as a list of pairs.
-ghost use Rattle.std.specs.Prelude.{◌≡◌, ◌++◌, ◌≤◌, ◌≤ℤ◌, ◌<ℤ◌, ◌+ℤ◌, ◌-ℤ◌, pos, ℕ, ℤ, not, int_lt, List, [], true, length, IfNone, IfOk, IfSome, OnOk, FitsSigned};
-ghost use Rattle.std.specs.Int.{w64};
+ghost use Rattle.std.specs.Prelude.{◌≡◌, ◌++◌, ◌≤◌, ◌≤ℤ◌, ◌+ℤ◌, ◌-ℤ◌, pos, ℕ, ℤ, not, int_lt, List, [], true, length, IfNone, IfOk, IfSome, OnOk};
 ghost use Rattle.std.specs.Ordering.{int_eq};
 ghost use Rattle.palm_base.specs.declared.terms.Pair.{Pair as PairTerm};
 ghost use Rattle.palm_domain.specs.Rows.{Ascends, IsDeclared, declared_values, initial_of};
 ghost use Rattle.palm_domain.specs.declared.limits.TheConstants.{MOST_VALUES};
 ghost use Rattle.palm_explain.specs.Explanations.{AreSpanned};
+ghost use Rattle.palm_explain.specs.Moving.{spans_at};
+ghost use Rattle.palm_explain.specs.declared.moving.End.TheVariants.{Shifted};
 ghost use Rattle.palm_filter.specs.Rules.{declared_passing, listed_pairs, written};
-ghost use Rattle.palm_filter.specs.declared.rule.Interval.{Interval as IntervalTerm};
-ghost use Rattle.palm_filter.specs.declared.rule.Rule.TheVariants.{Listed};
 ghost use Rattle.palm_model.specs.Constraint.{IsWellFormed};
 ghost use Rattle.palm_model.specs.Removed.{pairs_of};
 ghost use Rattle.palm_model.specs.declared.constraint.Con.{Con};
-ghost use Rattle.palm_engine.specs.Reasons.{Covers, Goes, IsRun, IsToldBy, Knows, TellsMore, reason_in, values_in};
+ghost use Rattle.palm_engine.specs.Reasons.{AreNear, Covers, Goes, IsNearNumber, IsNearShift, IsRun, IsToldBy, Knows, TellsMore, TellsReason, values_in};
 
 use palm_base::{NoMemory, Pair, Value, Var};
 use palm_domain::DomainStore;
-use palm_explain::Span;
+use palm_explain::{End, MovingSpan};
 use palm_filter::{Filter, Interval, Intervals, Known, Reasons, Rule, Shift};
-use palm_model::number_of;
 use std::alloc::{AllocError, Global};
 
-/// Room for the reasons of one removal, filled again and again.
+/// Values and shifts up to this number, above zero and below it, are told of by a rule: no sum of two of them leaves 32 bits.
+const MOST_NEAR: i32 = (1 << 30) - 1;
+
+/// Room for the reasons of removals, filled again and again.
 #[derive(Drop)]
 pub(crate) struct ReasonRoom {
     /// The reasons, where they are listed.
     pub(crate) pairs: Reasons,
     pub(crate) intervals: Intervals,
-    /// The spans that stand for the reasons.
-    pub(crate) spans: Vec<Span>,
-    /// The rule of the reasons that a walk over the values of a variable knows.
-    pub(crate) known: Option<Known>,
+    /// Values that go together.
+    pub(crate) values: Vec<Value>,
+    /// The spans that stand for the reasons of a value.
+    pub(crate) spans: Vec<MovingSpan>,
+    /// The greatest value for whose reasons the spans are known to stand, in a walk over the values of a variable.
+    pub(crate) known: Option<Value>,
 }
 
 impl ReasonRoom {
-    /// No reason, and no rule.
+    /// No reason, and no span that is known to stand for one.
     pub(crate) fn new(alloc: Global) -> ReasonRoom {
         ReasonRoom {
             pairs: Reasons::new(alloc),
             intervals: Intervals::new(alloc),
+            values: Vec::new(alloc),
             spans: Vec::new(alloc),
             known: None,
         }
     }
 
-    /// Whether a rule is known of the value.
-    fn covers(&self, value: &Value) -> bool
+    /// Whether the spans are known to stand for the reasons of the value.
+    pub(crate) fn covers(&self, value: &Value) -> bool
         ensures { result ≡ true → Covers value.now self.now }
     {
         match &self.known {
-            Some(known) => *value <= known.last,
+            Some(last) => *value <= *last,
             None => false,
         }
     }
@@ -71,15 +75,17 @@ fn values_in<'a>(store: &'a DomainStore, interval: &Interval) -> &'a [Value]
 }
 
 /// Appends the removals of values that stand side by side as a span, if there is one.
-fn push_span(var: Var, values: &[Value], out: &mut Vec<Span>) -> Result<(), NoMemory>
-    ensures { (pairs reasons : List PairTerm) → IsRun pairs var values.now → AreSpanned pairs out.old.items reasons
-        → OnOk result (AreSpanned pairs out.new.items (reasons ++ pairs_of var values.now)) }
+fn push_span(var: Var, values: &[Value], out: &mut Vec<MovingSpan>) -> Result<(), NoMemory>
+    ensures told { (v : ℤ) (pairs reasons : List PairTerm) → IsRun pairs var values.now
+        → AreSpanned pairs (spans_at out.old.items v) reasons
+        → OnOk result (AreSpanned pairs (spans_at out.new.items v) (reasons ++ pairs_of var values.now)) }
+    ensures near { AreNear out.old.items → OnOk result (AreNear out.new.items) }
 {
     if let (Some(low), Some(high)) = (values.first(), values.last()) {
-        out.push(Span {
+        out.push(MovingSpan {
             var,
-            low: *low,
-            high: *high,
+            low: End::At(*low),
+            high: End::At(*high),
         })?;
     }
     Ok(())
@@ -89,10 +95,11 @@ fn push_span(var: Var, values: &[Value], out: &mut Vec<Span>) -> Result<(), NoMe
 fn list_spans(
     store: &DomainStore,
     intervals: &[Interval],
-    out: &mut Vec<Span>,
+    out: &mut Vec<MovingSpan>,
 ) -> Result<(), NoMemory>
-    ensures { OnOk result (IsToldBy (initial_of store.now)
-        (listed_pairs (initial_of store.now) intervals.now) out.new.items) }
+    ensures told { (v : ℤ) → OnOk result (IsToldBy (initial_of store.now)
+        (listed_pairs (initial_of store.now) intervals.now) (spans_at out.new.items v)) }
+    ensures near { OnOk result (AreNear out.new.items) }
 {
     out.clear();
     for interval in intervals {
@@ -125,189 +132,184 @@ fn ends_of(store: &DomainStore, var: Var) -> Option<Ends>
     })
 }
 
-/// The least number from this one on that is not below the ends, if it is not above them.
-fn first_from(low: &i64, ends: &Ends) -> Option<Value>
-    ensures none { IfNone result (ends.now.greatest <ℤ low.now) }
-    ensures some { IfSome result (λ first. (low.now ≤ℤ first) × ((v : ℤ) → low.now ≤ℤ v
-        → ends.now.least ≤ℤ v → first ≤ℤ v)) }
+/// Whether no sum of the shift, of one more or of one less, and a value that is not beyond those of a rule leaves 32 bits.
+fn is_near(shift: &Shift) -> bool
+    ensures { result ≡ true → IsNearShift shift.now }
 {
-    if *low <= number_of(&ends.least) {
-        Some(ends.least)
-    } else if *low <= number_of(&ends.greatest) {
-        Some(Value(*low as i32))
-    } else {
-        None
-    }
+    -MOST_NEAR < shift.by && shift.by < MOST_NEAR
 }
 
-/// The greatest number up to this one that is not above the ends, if it is not below them.
-fn last_up_to(high: &i64, ends: &Ends) -> Option<Value>
-    ensures none { IfNone result (high.now <ℤ ends.now.least) }
-    ensures some { IfSome result (λ last. (last ≤ℤ high.now) × ((v : ℤ) → v ≤ℤ high.now
-        → v ≤ℤ ends.now.greatest → v ≤ℤ last)) }
+/// The shifted value.
+fn shifted(shift: &Shift) -> End
+    requires { IsNearShift shift.now }
+    ensures { result ≡ Shifted shift.now.by }
 {
-    if number_of(&ends.greatest) <= *high {
-        Some(ends.greatest)
-    } else if number_of(&ends.least) <= *high {
-        Some(Value(*high as i32))
-    } else {
-        None
-    }
+    End::Shifted(shift.by)
 }
 
-/// The value of this number, where it is between the ends.
-fn value_at(number: &i64, ends: &Ends) -> Option<Value>
-    ensures none { IfNone result (ends.now.least ≤ℤ number.now → number.now ≤ℤ ends.now.greatest
-        → ⊥) }
-    ensures some { IfSome result (λ value. value ≡ number.now) }
+/// What is before the shifted value.
+fn before_shifted(shift: &Shift) -> End
+    requires { IsNearShift shift.now }
+    ensures { result ≡ Shifted (shift.now.by -ℤ pos 1) }
 {
-    if number_of(&ends.least) <= *number && *number <= number_of(&ends.greatest) {
-        Some(Value(*number as i32))
-    } else {
-        None
-    }
+    End::Shifted(shift.by - 1)
 }
 
-/// Appends the removals of the variable's values from the number on as a span, if there are any.
-fn push_from(store: &DomainStore, var: Var, low: &i64, out: &mut Vec<Span>) -> Result<(), NoMemory>
-    ensures { OnOk result (TellsMore (initial_of store.now) out.old.items out.new.items (declared_passing (initial_of store.now) var (λ w. not (int_lt w low.now)))) }
+/// What is behind the shifted value.
+fn after_shifted(shift: &Shift) -> End
+    requires { IsNearShift shift.now }
+    ensures { result ≡ Shifted (shift.now.by +ℤ pos 1) }
 {
-    let Some(ends) = ends_of(store, var) else {
-        return Ok(());
-    };
-    let Some(first) = first_from(low, &ends) else {
-        return Ok(());
-    };
-    out.push(Span {
-        var,
-        low: first,
-        high: ends.greatest,
-    })?;
-    Ok(())
+    End::Shifted(shift.by + 1)
 }
 
-/// Appends the removals of the variable's values up to the number as a span, if there are any.
-fn push_up_to(
+/// Appends the removals of the values of the shift's variable from the shifted value on as a span, if it has values, and answers
+/// whether the shift is near.
+fn push_above(
     store: &DomainStore,
-    var: Var,
-    high: &i64,
-    out: &mut Vec<Span>,
-) -> Result<(), NoMemory>
-    ensures ascend { Ascends (declared_values store.now var) }
-    ensures told { OnOk result (TellsMore (initial_of store.now) out.old.items out.new.items (declared_passing (initial_of store.now) var (λ w. not (int_lt high.now w)))) }
+    shift: &Shift,
+    out: &mut Vec<MovingSpan>,
+) -> Result<bool, NoMemory>
+    ensures told { IfOk result (λ told. told ≡ true → TellsMore (initial_of store.now) out.old.items out.new.items
+        (λ v. declared_passing (initial_of store.now) shift.now.var (λ w. not (int_lt w (v +ℤ shift.now.by))))) }
+    ensures near { AreNear out.old.items → OnOk result (AreNear out.new.items) }
 {
-    let Some(ends) = ends_of(store, var) else {
-        return Ok(());
+    if !is_near(shift) {
+        return Ok(false);
+    }
+    let Some(ends) = ends_of(store, shift.var) else {
+        return Ok(true);
     };
-    let Some(last) = last_up_to(high, &ends) else {
-        return Ok(());
-    };
-    out.push(Span {
-        var,
-        low: ends.least,
-        high: last,
+    out.push(MovingSpan {
+        var: shift.var,
+        low: shifted(shift),
+        high: End::At(ends.greatest),
     })?;
-    Ok(())
+    Ok(true)
 }
 
-/// Appends the removal of the variable's value of this number as a span, if there is one.
-fn push_at(store: &DomainStore, var: Var, number: &i64, out: &mut Vec<Span>) -> Result<(), NoMemory>
-    ensures { OnOk result (TellsMore (initial_of store.now) out.old.items out.new.items (declared_passing (initial_of store.now) var (λ w. int_eq w number.now))) }
+/// Appends the removals of the values of the shift's variable up to the shifted value as a span, if it has values, and answers
+/// whether the shift is near.
+fn push_below(
+    store: &DomainStore,
+    shift: &Shift,
+    out: &mut Vec<MovingSpan>,
+) -> Result<bool, NoMemory>
+    ensures told { IfOk result (λ told. told ≡ true → TellsMore (initial_of store.now) out.old.items out.new.items
+        (λ v. declared_passing (initial_of store.now) shift.now.var (λ w. not (int_lt (v +ℤ shift.now.by) w)))) }
+    ensures near { AreNear out.old.items → OnOk result (AreNear out.new.items) }
 {
-    let Some(ends) = ends_of(store, var) else {
-        return Ok(());
+    if !is_near(shift) {
+        return Ok(false);
+    }
+    let Some(ends) = ends_of(store, shift.var) else {
+        return Ok(true);
     };
-    let Some(value) = value_at(number, &ends) else {
-        return Ok(());
-    };
-    out.push(Span {
-        var,
-        low: value,
-        high: value,
+    out.push(MovingSpan {
+        var: shift.var,
+        low: End::At(ends.least),
+        high: shifted(shift),
     })?;
-    Ok(())
+    Ok(true)
 }
 
-/// The number of the shifted value.
-fn shifted(shift: &Shift, value: &Value) -> i64
-    ensures number { result ≡ value.now +ℤ shift.now.by }
-    ensures fits { FitsSigned w64 result }
+/// Appends the removal of the shifted value of the shift's variable as a span, if the variable has values, and answers whether the
+/// shift is near.
+fn push_at(
+    store: &DomainStore,
+    shift: &Shift,
+    out: &mut Vec<MovingSpan>,
+) -> Result<bool, NoMemory>
+    ensures told { IfOk result (λ told. told ≡ true → TellsMore (initial_of store.now) out.old.items out.new.items
+        (λ v. declared_passing (initial_of store.now) shift.now.var (λ w. int_eq w (v +ℤ shift.now.by)))) }
+    ensures near { AreNear out.old.items → OnOk result (AreNear out.new.items) }
 {
-    number_of(value) + i64::from(shift.by)
+    if !is_near(shift) {
+        return Ok(false);
+    }
+    let Some(_) = ends_of(store, shift.var) else {
+        return Ok(true);
+    };
+    out.push(MovingSpan {
+        var: shift.var,
+        low: shifted(shift),
+        high: shifted(shift),
+    })?;
+    Ok(true)
 }
 
-/// The number before it.
-fn before_shifted(shift: &Shift, value: &Value) -> i64
-    ensures number { result ≡ value.now +ℤ shift.now.by -ℤ pos 1 }
-    ensures fits { FitsSigned w64 result }
-{
-    number_of(value) + i64::from(shift.by) - 1
-}
-
-/// The number after it.
-fn after_shifted(shift: &Shift, value: &Value) -> i64
-    ensures number { result ≡ value.now +ℤ shift.now.by +ℤ pos 1 }
-    ensures fits { FitsSigned w64 result }
-{
-    number_of(value) + i64::from(shift.by) + 1
-}
-
-/// Appends the removals of the values of the shift's variable but the shifted value as spans, if there are any.
+/// Appends the removals of the values of the shift's variable but the shifted value as spans, if it has values, and answers whether
+/// the shift is near.
 fn push_others(
     store: &DomainStore,
     shift: &Shift,
-    value: &Value,
-    out: &mut Vec<Span>,
-) -> Result<(), NoMemory>
-    ensures { OnOk result (TellsMore (initial_of store.now) out.old.items out.new.items
-        (declared_passing (initial_of store.now) shift.now.var (λ w. not (int_eq w (value.now +ℤ shift.now.by))))) }
+    out: &mut Vec<MovingSpan>,
+) -> Result<bool, NoMemory>
+    ensures told { IfOk result (λ told. told ≡ true → TellsMore (initial_of store.now) out.old.items out.new.items
+        (λ v. declared_passing (initial_of store.now) shift.now.var (λ w. not (int_eq w (v +ℤ shift.now.by))))) }
+    ensures near { AreNear out.old.items → OnOk result (AreNear out.new.items) }
 {
-    push_up_to(store, shift.var, &before_shifted(shift, value), out)?;
-    push_from(store, shift.var, &after_shifted(shift, value), out)
+    if !is_near(shift) {
+        return Ok(false);
+    }
+    let Some(ends) = ends_of(store, shift.var) else {
+        return Ok(true);
+    };
+    out.push(MovingSpan {
+        var: shift.var,
+        low: End::At(ends.least),
+        high: before_shifted(shift),
+    })?;
+    out.push(MovingSpan {
+        var: shift.var,
+        low: after_shifted(shift),
+        high: End::At(ends.greatest),
+    })?;
+    Ok(true)
 }
 
-/// Makes `out` the spans of the reasons of the value by the rule. Those of a list it has.
+/// Makes `out` the spans of the reasons of a value by the rule, with the intervals of its list, and answers whether its shift is near.
 fn write_spans(
     store: &DomainStore,
     rule: &Rule,
-    value: &Value,
-    out: &mut Vec<Span>,
-) -> Result<(), NoMemory>
-    ensures told { (c : Con) (x : ℕ) (intervals : List IntervalTerm) → (rule.now ≡ Listed
-        → IsToldBy (initial_of store.now) (listed_pairs (initial_of store.now) intervals) out.old.items)
-        → OnOk result (IsToldBy (initial_of store.now) (written (initial_of store.now) c rule.now intervals x value.now) out.new.items) }
-    ensures spans { rule.now ≡ Listed → out.new.items ≡ out.old.items }
+    intervals: &[Interval],
+    out: &mut Vec<MovingSpan>,
+) -> Result<bool, NoMemory>
+    ensures told { (c : Con) (x : ℕ) (v : ℤ) → IfOk result (λ told. told ≡ true → IsToldBy (initial_of store.now)
+        (written (initial_of store.now) c rule.now intervals.now x v) (spans_at out.new.items v)) }
+    ensures near { OnOk result (AreNear out.new.items) }
 {
-    if let Rule::Listed = rule {
-        return Ok(());
-    }
     out.clear();
     match rule {
-        Rule::Empty | Rule::Listed => Ok(()),
-        Rule::Above(shift) => push_from(store, shift.var, &shifted(shift, value), out),
-        Rule::Below(shift) => push_up_to(store, shift.var, &shifted(shift, value), out),
-        Rule::At(shift) => push_at(store, shift.var, &shifted(shift, value), out),
-        Rule::Other(shift) => push_others(store, shift, value, out),
+        Rule::Empty => Ok(true),
+        Rule::Above(shift) => push_above(store, shift, out),
+        Rule::Below(shift) => push_below(store, shift, out),
+        Rule::At(shift) => push_at(store, shift, out),
+        Rule::Other(shift) => push_others(store, shift, out),
+        Rule::Listed => {
+            list_spans(store, intervals, out)?;
+            Ok(true)
+        }
     }
 }
 
-/// Where the rule is a list, makes `out` the spans of its intervals.
-fn list_spans_of(
-    store: &DomainStore,
-    rule: &Rule,
-    intervals: &[Interval],
-    out: &mut Vec<Span>,
-) -> Result<(), NoMemory>
-    ensures { OnOk result (rule.now ≡ Listed → IsToldBy (initial_of store.now)
-        (listed_pairs (initial_of store.now) intervals.now) out.new.items) }
+/// The last value of which the rule is known, if it is not before this one, and neither of them is too far for a rule.
+fn last_of(known: &Known, value: &Value) -> Option<Value>
+    ensures { IfSome result (λ last. (value.now ≤ℤ last) × (last ≤ℤ known.now.last)
+        × IsNearNumber value.now × IsNearNumber last) }
 {
-    match rule {
-        Rule::Listed => list_spans(store, intervals, out),
-        _ => Ok(()),
+    let last = if known.last.0 < MOST_NEAR {
+        known.last
+    } else {
+        Value(MOST_NEAR)
+    };
+    if last < *value || value.0 < -MOST_NEAR {
+        return None;
     }
+    Some(last)
 }
 
-/// Asks the filter for a rule of the reasons of the value, and answers whether it tells one.
+/// Asks the filter for a rule of the reasons of the value, and answers whether the room's spans are those of one.
 fn learn<F: Filter>(
     filter: &F,
     store: &DomainStore,
@@ -324,36 +326,18 @@ fn learn<F: Filter>(
     let Some(known) = filter.rule(store, pair, &mut room.intervals)? else {
         return Ok(false);
     };
-    if known.last < pair.value {
+    let Some(last) = last_of(&known, &pair.value) else {
+        return Ok(false);
+    };
+    if !write_spans(store, &known.rule, &room.intervals, &mut room.spans)? {
         return Ok(false);
     }
-    list_spans_of(store, &known.rule, &room.intervals, &mut room.spans)?;
-    room.known = Some(known);
+    room.known = Some(last);
     Ok(true)
 }
 
-/// Whether a rule of the reasons of the value is known to the walk, or else to the filter.
-fn is_ruled<F: Filter>(
-    filter: &F,
-    store: &DomainStore,
-    pair: &Pair,
-    room: &mut ReasonRoom,
-) -> Result<bool, NoMemory>
-    requires formed { IsWellFormed (length store.now) (F.meaning filter.now) }
-    requires goes { Goes store.now (F.meaning filter.now) pair.now }
-    requires knows { Knows store.now (F.meaning filter.now) pair.now.var pair.now.value room.old }
-    ensures knows { OnOk result (Knows store.now (F.meaning filter.now) pair.now.var
-        pair.now.value room.new) }
-    ensures covers { IfOk result (λ told. told ≡ true → Covers pair.now.value room.new) }
-{
-    if room.covers(&pair.value) {
-        return Ok(true);
-    }
-    learn(filter, store, pair, room)
-}
-
-/// Makes the room's spans those of the removed pairs for which the value has no support, where a rule of them is known, and answers
-/// whether it is.
+/// Makes the room's spans stand for the removed pairs for which the value has no support, where the walk or else the filter knows a
+/// rule of them, and answers whether they do.
 pub(crate) fn spans_by_rule<F: Filter>(
     filter: &F,
     store: &DomainStore,
@@ -364,18 +348,14 @@ pub(crate) fn spans_by_rule<F: Filter>(
     requires goes { Goes store.now (F.meaning filter.now) pair.now }
     requires knows { Knows store.now (F.meaning filter.now) pair.now.var pair.now.value room.old }
     ensures told { IfOk result (λ told. told ≡ true
-        → IsToldBy (initial_of store.now) (reason_in store.now (F.meaning filter.now) pair.now) room.new.spans.items) }
+        → TellsReason store.now (F.meaning filter.now) pair.now room.new.spans.items) }
     ensures knows { OnOk result (Knows store.now (F.meaning filter.now) pair.now.var
         pair.now.value room.new) }
 {
-    // The store tells here what it holds of its values: a rule is known of the reasons where they ascend.
+    // The store tells here what it holds of its values: spans are known to stand for reasons where they ascend.
     prove!(store.variables() > 0);
-    if !is_ruled(filter, store, pair, room)? {
-        return Ok(false);
+    if room.covers(&pair.value) {
+        return Ok(true);
     }
-    let Some(known) = &room.known else {
-        return Ok(false);
-    };
-    write_spans(store, &known.rule, &pair.value, &mut room.spans)?;
-    Ok(true)
+    learn(filter, store, pair, room)
 }

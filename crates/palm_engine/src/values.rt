@@ -9,8 +9,9 @@ ghost use Rattle.palm_model.specs.Removed.{pairs_of};
 ghost use Rattle.palm_model.specs.State.{AllFilled};
 ghost use Rattle.palm_model.specs.Support.{IsSupported, LacksSupport};
 ghost use Rattle.palm_engine.specs.Advancing.{AreSupportedBeyond, AreSupportedUnless};
+ghost use Rattle.palm_engine.specs.Changed.{TakesOut};
 ghost use Rattle.palm_engine.specs.Posted.{active_of};
-ghost use Rattle.palm_engine.specs.Reasons.{Knows};
+ghost use Rattle.palm_engine.specs.Reasons.{Knows, reason_in};
 ghost use Rattle.palm_engine.specs.Revising.{AreSupportedAt, HasCounted, IsRevising, Walked, WalkedPart};
 ghost use Rattle.palm_engine.specs.Settling.{IsDue};
 
@@ -22,8 +23,28 @@ use crate::posted::Posted;
 use crate::reasons::ReasonRoom;
 use palm_agenda::Mark;
 use palm_base::{HasCid, NoMemory, Pair, Steps, Value, Var};
-use palm_filter::{Filter, Shape};
+use palm_filter::{Filter, Reasons, Shape};
 use std::sync::ledger::Ledger;
+
+/// Takes a present value out that lacks support, for its reasons as a list. Without memory it stays.
+pub(crate) fn take_out_listed<F: Filter>(
+    filtering: &mut Filtering,
+    constraint: &Posted<F>,
+    pair: Pair,
+    pairs: &mut Reasons,
+) -> Result<(), NoMemory>
+    requires revising { (active : List Active) × IsRevising filtering.old active (active_of F.meaning constraint.now) }
+    requires filled { AllFilled (present_of filtering.old.store) }
+    requires present { Has (present_of filtering.old.store) pair.var pair.value }
+    requires lacking { LacksSupport (present_of filtering.old.store) (active_of F.meaning constraint.now).con pair.var pair.value }
+    ensures taken { OnOk result (TakesOut filtering.old pair (active_of F.meaning constraint.now).cid
+        (reason_in filtering.old.store (active_of F.meaning constraint.now).con pair) filtering.new) }
+    ensures err { OnErr result (filtering.new ≡ filtering.old) }
+{
+    let Pair { var, value } = pair;
+    constraint.reason(&filtering.store, Pair { var, value }, pairs)?;
+    filtering.remove(Pair { var, value }, constraint.cid(), pairs.as_slice())
+}
 
 /// Takes a present value out that lacks support, in a walk over the values of its variable from which the room has a rule of
 /// their reasons, if there is one. Without memory it stays.
@@ -59,8 +80,7 @@ pub(crate) fn take_out<F: Filter>(
             room.spans.as_slice(),
         );
     }
-    constraint.reason(&filtering.store, Pair { var, value }, &mut room.pairs)?;
-    filtering.remove(Pair { var, value }, constraint.cid(), room.pairs.as_slice())
+    take_out_listed(filtering, constraint, Pair { var, value }, &mut room.pairs)
 }
 
 /// Asks for a present value of the constraint's variable, and takes it out where it lacks support. Without memory

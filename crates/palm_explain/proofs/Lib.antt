@@ -12,6 +12,7 @@ mod Marking
 mod NamedSome
 mod NeededPlaces
 mod NotedSpans
+mod Numbering
 mod PlaceSets
 mod PuttingBack
 mod Reasons
@@ -19,6 +20,7 @@ mod Returning
 mod Rising
 mod RowNumbers
 mod RowSpans
+mod RunEntries
 mod Slots
 mod Spanned
 mod Stores

@@ -1,18 +1,20 @@
 -- The numbers in rows: one is found by its value, set at its place, and put in where it is not.
-use Rattle.std.proofs.Common.{◌≡◌, ℕ, zero, suc, ℤ, ◌<◌, ◌≤◌, ◌<ℤ◌, ◌≤ℤ◌, true, false, cond, List, [], ◌∷◌, ◌++◌, length, replicate, set, get_or, slice_get, Contains, Some, None, Result, Ok, Err, Ordering, Less, Equal, Greater, ◌⊎◌, inl, inr, refl, sym, ap, ◌∙◌, subst, arith, int_eq}
+use Rattle.std.proofs.Common.{◌≡◌, ℕ, zero, suc, ℤ, ◌<◌, ◌≤◌, ◌<ℤ◌, ◌≤ℤ◌, true, false, cond, List, [], ◌∷◌, ◌++◌, length, replicate, set, length-set, get_or, slice_get, Contains, Some, None, Result, Ok, Err, Ordering, Less, Equal, Greater, ◌⊎◌, inl, inr, refl, sym, ap, ◌∙◌, subst, arith, int_eq}
 use Rattle.std.specs.List.{insert}
 use Rattle.std.specs.List.Sorted.{IsBinarySearchResult, IsSearchInRange}
 use Rattle.std.specs.Ordering.{int_cmp, ordering_index, MatchOrdering}
 use Rattle.std.proofs.lemmas.Cmp.{int_ranked}
 use Rattle.std.proofs.lemmas.Int.{ints}
-use Rattle.std.proofs.lemmas.Bool.{cases_Bool, cases_lt}
+use Rattle.std.proofs.lemmas.Bool.{cases_Bool, cases_lt, false≢true}
 use Rattle.std.proofs.lemmas.Bool.Decides.{Decides-int_eq}
 use Rattle.std.proofs.lemmas.List.Elements.{All-contains, Contains-push_cases}
+use Rattle.std.proofs.lemmas.Option.{slice_get-get_or}
 use Rattle.palm_base.proofs.cited.Members.{member_get, member_here, member_there, member_cases, member_same, all_members}
 use Rattle.palm_base.specs.declared.terms.Pair.{Pair}
 use Rattle.palm_base.specs.Ascending.{Ascends}
 use Rattle.palm_domain.proofs.cited.Ascending.{get_or-rises}
 use Rattle.palm_explain.specs.declared.rows.Row.{Row}
+use Rattle.palm_explain.specs.declared.rows.TheConstants.{NO_NUMBER}
 use Rattle.palm_explain.specs.Rows.{AreFormedRows, IsFormedRow, KeepsRemovals, number_at, number_in, row_number}
 
 int_same : (v : ℤ) → int_eq v v ≡ true
@@ -136,6 +138,55 @@ insert_formed r v i k formed b =
     let long = formed.numbers in
     let le : i ≤ length r.numbers.items = omega (arith, within, long) in
     insert_length r.numbers.items i k le ∙ ap suc long ∙ sym (insert_length r.values.items i v within)
+
+-- a value that stands in a row has a number
+pub standing_number : (r : Row) (v : ℤ) (i : ℕ) → IsFormedRow r → (i < length r.values.items) × (get_or r.values.items i v ≡ v) → (k : ℕ) × (number_in r.values.items r.numbers.items v ≡ Some k)
+standing_number r v i formed stands =
+    let long = formed.numbers in
+    let lt = stands.0 in
+    let k = get_or r.numbers.items i 0 in
+    (k, number_found r.values.items r.numbers.items i v k formed.ascends lt stands.1 (slice_get-get_or r.numbers.items i 0 (omega (arith, long, lt))))
+
+-- another number at the place of a value
+module _ (r : Row) (v : ℤ) (i k : ℕ) (numbers : List ℕ) (formed : IsFormedRow r) (within : i < length r.values.items) (at : get_or r.values.items i v ≡ v) (is : numbers ≡ set r.numbers.items i k) where
+  pub set_length : length numbers ≡ length r.values.items
+  set_length = ap length is ∙ length-set r.numbers.items i k ∙ formed.numbers
+
+  pub set_there : number_in r.values.items numbers v ≡ Some k
+  set_there = ap (λ ks. number_in r.values.items ks v) is ∙ set_found r.values.items r.numbers.items i v k formed.ascends formed.numbers within at
+
+  pub set_others : (u : ℤ) → (u ≡ v → ⊥) → number_in r.values.items numbers u ≡ number_in r.values.items r.numbers.items u
+  set_others u n = ap (λ ks. number_in r.values.items ks u) is ∙ set_other r.values.items r.numbers.items i v u k at within n
+
+-- a value that has no number gets one that is none
+module _ (r : Row) (v : ℤ) (i : ℕ) (values : List ℤ) (numbers : List ℕ) (formed : IsFormedRow r) (b : IsBetween r.values.items v i) (longer : values ≡ insert r.values.items i v) (more : numbers ≡ insert r.numbers.items i NO_NUMBER) where
+  pub inserted_ascends : Ascends values
+  inserted_ascends = subst Ascends (sym longer) (insert_ascends r.values.items v i formed.ascends b)
+
+  pub inserted_length : length numbers ≡ length values
+  inserted_length = ap length more ∙ insert_formed r v i NO_NUMBER formed b ∙ sym (ap length longer)
+
+  inserted_there : number_in values numbers v ≡ Some NO_NUMBER
+  inserted_there = ap (λ vs. number_in vs numbers v) longer ∙ ap (λ ks. number_in (insert r.values.items i v) ks v) more ∙ insert_found r.values.items r.numbers.items v i NO_NUMBER formed.numbers b
+
+  pub inserted_others : (u : ℤ) → (u ≡ v → ⊥) → number_in values numbers u ≡ number_in r.values.items r.numbers.items u
+  inserted_others u n =
+      ap (λ vs. number_in vs numbers u) longer ∙ ap (λ ks. number_in (insert r.values.items i v) ks u) more ∙ insert_other r.values.items r.numbers.items v u i NO_NUMBER formed.numbers b.within n
+
+  pub inserted_stay : (u : ℤ) (k : ℕ) → number_in r.values.items r.numbers.items u ≡ Some k → number_in values numbers u ≡ Some k
+  inserted_stay u k is = elim (cases_Bool (int_eq u v)) [
+    | inl t ↦ absurd (between_free r.values.items v i b (number_value r.values.items r.numbers.items v k (ap (number_in r.values.items r.numbers.items) (sym ((Decides-int_eq u v).0 t)) ∙ is)))
+    | inr f ↦ inserted_others u (λ q. false≢true (sym f ∙ (Decides-int_eq u v).1 q)) ∙ is
+  ]
+
+  pub inserted_only : (u : ℤ) (k : ℕ) → number_in values numbers u ≡ Some k → (number_in r.values.items r.numbers.items u ≡ Some k) ⊎ (k ≡ NO_NUMBER)
+  inserted_only u k is = elim (cases_Bool (int_eq u v)) [
+    | inl t ↦ inr (let same : Some NO_NUMBER ≡ Some k = sym inserted_there ∙ ap (number_in values numbers) (sym ((Decides-int_eq u v).0 t)) ∙ is in sym (of_same NO_NUMBER k same))
+    | inr f ↦ inl (sym (inserted_others u (λ q. false≢true (sym f ∙ (Decides-int_eq u v).1 q))) ∙ is)
+  ]
+    where
+      of_same : (m n : ℕ) → Some m ≡ Some n → m ≡ n
+      of_same m n e = cc
 
 -- ---- what the search by halves finds
 

@@ -36,7 +36,7 @@ module _ (rows more : List Row) (n : ℕ) (one : AreFormedRows rows) (two : AreF
   reasons_same : (m : ℕ) → m ≤ n → (spans : List Span) → written more m spans ≡ written rows m spans
   reasons_same m le spans = written_same rows more m spans (λ s j. spans_same m le s)
 
-  countable_same : (e : Entry) → e.number ≤ n → IsCountable rows e → IsCountable more e
+  pub countable_same : (e : Entry) → e.number ≤ n → IsCountable rows e → IsCountable more e
   countable_same e le is = let same = ap length (reasons_same e.number le e.spans.items) in omega (arith, same, is)
 
   removal_same : (e : Entry) → e.number ≤ n → removal_of more e ≡ removal_of rows e
@@ -45,7 +45,7 @@ module _ (rows more : List Row) (n : ℕ) (one : AreFormedRows rows) (two : AreF
   pub log_same : (entries : List Entry) → ((e : Entry) → Contains entries e → e.number ≤ n) → log_of more entries ≡ log_of rows entries
   log_same entries within = map_agree (removal_of more) (removal_of rows) entries (λ e m. removal_same e (within e m))
 
-below_next : (entries : List Entry) (rows : List Row) (next : ℕ) → AreEntered entries rows next → (e : Entry) → Contains entries e → e.number ≤ next
+pub below_next : (entries : List Entry) (rows : List Row) (next : ℕ) → AreEntered entries rows next → (e : Entry) → Contains entries e → e.number ≤ next
 below_next entries rows next are e m = let lt = are.below e m in omega (arith, lt)
 
 -- rows that say the same of all that is removed

@@ -7,7 +7,9 @@ use Rattle.palm_model.specs.Domains.{without}
 use Rattle.palm_model.specs.Log.{Removal, NamesOfPair, log_pairs}
 use Rattle.palm_explain.specs.declared.restored.Restored.{Restored}
 use Rattle.palm_explain.specs.declared.spans.Span.{Span}
+use Rattle.palm_explain.specs.declared.moving.MovingSpan.{MovingSpan}
 use Rattle.palm_explain.specs.Entries.{pairs_with}
+use Rattle.palm_explain.specs.Moving.{spans_at}
 
 -- the removals, the oldest first, and what the last withdrawal told of the variables of which it put values back
 pub record Explanations : Type 0 where
@@ -69,6 +71,21 @@ pub data AreSpanned (pairs : List Pair) : List Span → List Pair → Type 0 whe
   spans_end : AreSpanned pairs [] []
   spans_on : (s : Span) (spans : List Span) (values : List ℤ) (reasons : List Pair) → IsSpanOf pairs s values → AreSpanned pairs spans reasons
       → AreSpanned pairs (s ∷ spans) (pairs_with s.var values ++ reasons)
+
+-- ---- removals of several values
+
+-- the removal of the value under the id, for what the spans stand for at it behind this log
+pub record IsRunRemoval (x : ℕ) (by : Cid) (spans : List MovingSpan) (log : List Removal) (v : ℤ) (r : Removal) : Type 0 where
+  pub paired : r.pair ≡ record { var = x; value = v }
+  pub made : r.by ≡ by
+  pub resting : AreSpanned (log_pairs log) (spans_at spans v) r.reasons
+
+-- the removals of the values, one behind another, each for what the spans stand for behind the log and those before it
+abbrev pub IsRunOf : ℕ → Cid → List MovingSpan → List Removal → List ℤ → List Removal → Type 0
+IsRunOf x by spans log [] [] = ⊤
+IsRunOf x by spans log [] (r ∷ run) = ⊥
+IsRunOf x by spans log (v ∷ values) [] = ⊥
+IsRunOf x by spans log (v ∷ values) (r ∷ run) = IsRunRemoval x by spans log v r × IsRunOf x by spans (log ++ r ∷ []) values run
 
 -- ---- domains
 

@@ -4,6 +4,7 @@ pub mod Explanations
 pub mod Firsts
 pub mod Losing
 pub mod Merging
+pub mod Moving
 pub mod Needed
 pub mod Places
 pub mod Restored

@@ -6,6 +6,7 @@ mod entry;
 mod firsts;
 mod laws;
 mod losing;
+mod moving;
 mod naming;
 mod needing;
 mod noted;
@@ -21,6 +22,6 @@ pub use laws::{
     full_stores_lack_nothing, stores_lack_what_is_taken_out, well_founded_logs_are_linked,
     withdrawals_add_up,
 };
+pub use moving::{End, MovingSpan};
 pub use restored::Restored;
-pub use spans::Span;
 pub use store::ExplainStore;

@@ -1,7 +1,8 @@
 //! The numbers of removed pairs, in a row for each variable, so that none is looked up by hashing.
-ghost use Rattle.std.specs.Prelude.{◌≡◌, ◌≢◌, ◌⊎◌, ℕ, ℤ, ◌+◌, ◌-◌, ◌<◌, ◌≤◌, true, None, Some, [], ◌∷◌, length, slice_get, slice_index_or, IfNone, IfSome, MatchOption, OnErr, OnOk};
+ghost use Rattle.std.specs.Prelude.{◌≡◌, ◌≢◌, ◌⊎◌, ℕ, ℤ, ◌+◌, ◌-◌, ◌^◌, ◌<◌, ◌≤◌, true, None, Some, [], ◌∷◌, length, Contains, IfOk, slice_get, slice_index_or, IfNone, IfSome, MatchOption, OnErr, OnOk};
 ghost use Rattle.palm_base.specs.Ascending.{Ascends};
 ghost use Rattle.palm_base.specs.declared.terms.Pair.{Pair as PairTerm};
+ghost use Rattle.palm_explain.specs.Moving.{NumbersEach};
 ghost use Rattle.palm_explain.specs.Restored.{KeepsNumbers, slot_at};
 ghost use Rattle.palm_explain.specs.Rows.{AreFormedRows, IsFormedRow, KeepsRemovals, StandsAt, number_at, rest_in, span_in, value_number};
 
@@ -164,6 +165,37 @@ impl Row {
         self.numbers[place] = number;
     }
 
+    /// The place of a value, which gets one where it has none: it is not removed there. It is looked for first at a place. Without
+    /// memory nothing changes.
+    #[inline(always)]
+    fn place_for(&mut self, value: Value, near: usize) -> Result<usize, NoMemory>
+        requires { IsFormedRow self.old }
+        ensures formed { IsFormedRow self.new }
+        ensures found { IfOk result (StandsAt self.new value) }
+        ensures stay { (v : ℤ) (k : ℕ) → value_number self.old v ≡ Some k
+            → value_number self.new v ≡ Some k }
+        ensures only { (v : ℤ) (k : ℕ) → value_number self.new v ≡ Some k
+            → (value_number self.old v ≡ Some k) ⊎ (k ≡ NO_NUMBER) }
+        ensures others { (v : ℤ) → (v ≡ value → ⊥) → value_number self.new v ≡ value_number self.old v }
+        ensures err { OnErr result ((v : ℤ) → value_number self.new v ≡ value_number self.old v) }
+    {
+        if self.has_at(near, value) {
+            return Ok(near);
+        }
+        if let Some(place) = self.gapless_place(value) {
+            return Ok(place);
+        }
+        match self.values.binary_search(&value) {
+            Ok(place) => Ok(place),
+            Err(place) => {
+                self.numbers.reserve(1)?;
+                self.values.insert(place, value)?;
+                self.numbers.insert(place, NO_NUMBER).unwrap();
+                Ok(place)
+            }
+        }
+    }
+
     /// Sets the number of a value; without memory nothing changes.
     #[inline(always)]
     fn put(&mut self, value: Value, number: usize) -> Result<(), NoMemory>
@@ -173,19 +205,48 @@ impl Row {
         ensures err { OnErr result ((v : ℤ) → value_number self.new v ≡ value_number self.old v) }
         ensures others { (v : ℤ) → (v ≡ value → ⊥) → value_number self.new v ≡ value_number self.old v }
     {
-        if let Some(place) = self.gapless_place(value) {
-            self.numbers[place] = number;
-            return Ok(());
-        }
-        match self.values.binary_search(&value) {
-            Ok(place) => self.numbers[place] = number,
-            Err(place) => {
-                self.numbers.reserve(1)?;
-                self.values.insert(place, value)?;
-                self.numbers.insert(place, number).unwrap();
-            }
-        }
+        let place = self.place_for(value, 0)?;
+        self.numbers[place] = number;
         Ok(())
+    }
+
+    /// Gives each of the values a place that has none: it is not removed there. Answers where the first of them is where all stand side
+    /// by side. Without memory some of them have one.
+    fn reach_each(&mut self, values: &[Value]) -> Result<usize, NoMemory>
+        requires { IsFormedRow self.old }
+        ensures formed { IsFormedRow self.new }
+        ensures stay { (v : ℤ) (k : ℕ) → value_number self.old v ≡ Some k
+            → value_number self.new v ≡ Some k }
+        ensures only { (v : ℤ) (k : ℕ) → value_number self.new v ≡ Some k
+            → (value_number self.old v ≡ Some k) ⊎ (k ≡ NO_NUMBER) }
+        ensures there { OnOk result ((v : ℤ) → Contains values.now v → (k : ℕ) × (value_number self.new v ≡ Some k)) }
+    {
+        let mut near = 0;
+        for value in values {
+            near = self.place_for(*value, near)? + 1;
+        }
+        Ok(near.wrapping_sub(values.len()))
+    }
+
+    /// Gives the values, each of which has a number, the numbers from this one on. The first is looked for at a place.
+    fn number_each(&mut self, values: &[Value], first: usize, place: usize)
+        requires formed { IsFormedRow self.old }
+        requires ascend { Ascends values.now }
+        requires there { (v : ℤ) → Contains values.now v → (k : ℕ) × (value_number self.old v ≡ Some k) }
+        requires numbers { first + length values.now < 2 ^ 64 }
+        ensures formed { IsFormedRow self.new }
+        ensures numbered { (i : ℕ) (v : ℤ) → slice_get values.now i ≡ Some v → value_number self.new v ≡ Some (first + i) }
+        ensures others { (v : ℤ) → (Contains values.now v → ⊥) → value_number self.new v ≡ value_number self.old v }
+        ensures lost { length self.new.values.items ≡ length self.old.values.items }
+    {
+        let mut near = place;
+        let mut number = first;
+        for value in values {
+            let own = self.place_near(*value, near);
+            self.numbers[own] = number;
+            near = own + 1;
+            number += 1;
+        }
     }
 
     /// Takes the values, none of which is removed, if it has none yet. Without memory nothing changes.
@@ -265,6 +326,47 @@ pub(crate) fn put_number(rows: &mut Vec<Row>, pair: &Pair, number: usize) -> Res
     reach(rows, place + 1)?;
     let row = &mut rows[place];
     row.put(pair.value, number)
+}
+
+/// Gives each of the values of a variable a number that has none: it is not removed. All removals stay. Answers where the first of
+/// them is in its row where all stand side by side.
+pub(crate) fn reach_values(
+    rows: &mut Vec<Row>,
+    var: Var,
+    values: &[Value],
+) -> Result<usize, NoMemory>
+    requires formed { AreFormedRows rows.old.items }
+    ensures formed { AreFormedRows rows.new.items }
+    ensures removals { KeepsRemovals rows.old.items rows.new.items }
+    ensures reached { OnOk result (var < length rows.new.items) }
+    ensures there { OnOk result ((v : ℤ) → Contains values.now v
+        → (k : ℕ) × (number_at rows.new.items (record { var = var; value = v }) ≡ Some k)) }
+{
+    let place = var.0 as usize;
+    reach(rows, place + 1)?;
+    let row = &mut rows[place];
+    row.reach_each(values)
+}
+
+/// Gives the values of a variable, each of which has a number, the numbers from this one on. The first is looked for at a place of the
+/// row.
+pub(crate) fn number_each(
+    rows: &mut Vec<Row>,
+    var: Var,
+    values: &[Value],
+    first: usize,
+    place: usize,
+)
+    requires formed { AreFormedRows rows.old.items }
+    requires ascend { Ascends values.now }
+    requires reached { var < length rows.old.items }
+    requires there { (v : ℤ) → Contains values.now v
+        → (k : ℕ) × (number_at rows.old.items (record { var = var; value = v }) ≡ Some k) }
+    requires numbers { first + length values.now < 2 ^ 64 }
+    ensures { NumbersEach rows.old.items var first values.now rows.new.items }
+{
+    let row = &mut rows[var.0 as usize];
+    row.number_each(values, first, place);
 }
 
 /// Gives the row of a variable these values, none of which is removed, if it has none yet. All removals stay.

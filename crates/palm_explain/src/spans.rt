@@ -2,6 +2,7 @@
 ghost use Rattle.std.specs.Prelude.{◌≡◌, ℕ, ℤ, ◌+◌, ◌-◌, ◌^◌, ◌<◌, ◌≤◌, true, Some, length, drop, take, slice_get, ◌++◌, Contains, IfErr, IfOk, MatchOption, OnOk};
 ghost use Rattle.palm_base.specs.declared.terms.Pair.{Pair as PairTerm};
 ghost use Rattle.palm_explain.specs.Entries.{pairs_with, row_span, span_pairs, written};
+ghost use Rattle.palm_explain.specs.Moving.{lost_at};
 ghost use Rattle.palm_explain.specs.Rows.{AreFormedRows, IsFormedRow, IsNext, WereRemoved, number_at, number_in, span_in};
 
 use crate::rows::{Row, row_at, row_of};
@@ -114,8 +115,9 @@ pub(crate) fn copy_of(alloc: Global, spans: &[Span]) -> Result<SmallVec<Span, 2>
 
 /// How many values the variable lost at some time.
 #[inline(always)]
-fn lost_by(rows: &[Row], var: Var) -> usize
-    ensures { (n : ℕ) (low high : ℤ) → length (row_span (slice_get rows.now var) n low high) ≤ result }
+pub(crate) fn lost_by(rows: &[Row], var: Var) -> usize
+    ensures most { (n : ℕ) (low high : ℤ) → length (row_span (slice_get rows.now var) n low high) ≤ result }
+    ensures exact { result ≡ lost_at rows.now var }
 {
     match row_at(rows, var) {
         Some(row) => row.len(),

@@ -5,11 +5,12 @@ ghost use Rattle.palm_base.specs.declared.terms.Pair.{Pair as PairTerm};
 ghost use Rattle.palm_domain.specs.Rows.{Ascends, initial_of};
 ghost use Rattle.palm_model.specs.Constraint.{Distinct};
 ghost use Rattle.palm_model.specs.Event.{lost_pairs, vars_of};
-ghost use Rattle.palm_model.specs.Log.{IsListOf, Loses, NamesOfPair, log_pairs};
+ghost use Rattle.palm_model.specs.Log.{IsListOf, Loses, NamesOfPair, Removal, log_pairs};
 ghost use Rattle.palm_explain.specs.CidSets.{Adds, AddsSome};
 ghost use Rattle.palm_explain.specs.Entries.{pairs_with};
+ghost use Rattle.palm_explain.specs.Moving.{AreFitting};
 ghost use Rattle.palm_explain.specs.Needed.{AreNeeded};
-ghost use Rattle.palm_explain.specs.Explanations.{AreEnds, AreSpanned, IsLinked, IsSpanned, LacksExactly, NamesOfSome, log_bys, reasons_of, restored_vars};
+ghost use Rattle.palm_explain.specs.Explanations.{AreEnds, AreSpanned, IsLinked, IsRunOf, IsSpanned, LacksExactly, NamesOfSome, log_bys, reasons_of, restored_vars};
 
 use crate::cid_set::CidSet;
 use crate::entry::{Entry, place_of};
@@ -18,7 +19,8 @@ use crate::losing::lose_each;
 use crate::naming::names_at;
 use crate::needing::{add_cids, add_needed};
 use crate::restored::Restored;
-use crate::rows::{NO_NUMBER, Row, declare_values, number_near, put_number};
+use crate::moving::{MovingSpan, are_all_countable, push_run};
+use crate::rows::{NO_NUMBER, Row, declare_values, number_each, number_near, put_number, reach_values};
 use crate::spans::{Span, are_countable, copy_of, count_of, push_spans, reason_in, spans_of};
 use crate::withdrawing::{close_up, forget_each};
 use palm_base::{Cid, CidList, NoMemory, Pair, Value, Var};
@@ -88,7 +90,7 @@ impl ExplainStore {
 
     /// Adds a removal behind the others, whose reasons are the removals that the spans stand for, as any spans do; without memory
     /// nothing changes.
-    pub fn enter_spans(&mut self, pair: Pair, by: Cid, spans: &[Span]) -> Result<(), NoMemory>
+    fn enter_spans(&mut self, pair: Pair, by: Cid, spans: &[Span]) -> Result<(), NoMemory>
         requires fresh { Contains (log_pairs self.old.log) pair → ⊥ }
         ensures spanned { OnOk result ((reasons : List PairTerm)
             × AreSpanned (log_pairs self.old.log) spans.now reasons) }
@@ -113,6 +115,40 @@ impl ExplainStore {
             spans: own,
         });
         self.next = number + 1;
+        Ok(())
+    }
+
+    /// Adds a removal of each of the values behind the others, whose reasons are the removals that the spans stand for at the value;
+    /// without memory nothing changes.
+    pub fn enter_run(
+        &mut self,
+        var: Var,
+        values: &[Value],
+        by: Cid,
+        spans: &[MovingSpan],
+    ) -> Result<(), NoMemory>
+        requires ascend { Ascends values.now }
+        requires fresh { (v : ℤ) → Contains values.now v
+            → Contains (log_pairs self.old.log) (record { var = var; value = v }) → ⊥ }
+        requires fits { AreFitting spans.now values.now }
+        ensures ok { (run : List Removal) → IsRunOf var by spans.now self.old.log values.now run
+            → OnOk result (self.new ≡ record self.old { log = self.old.log ++ run }) }
+        ensures err { OnErr result (self.new ≡ self.old) }
+    {
+        let number = self.next;
+        if NO_NUMBER - number < values.len() {
+            return Err(NoMemory);
+        }
+        self.restored.reserve(self.log.len() + values.len())?;
+        self.log.reserve(values.len())?;
+        let place = reach_values(&mut self.rows, var, values)?;
+        if !are_all_countable(&self.rows, spans) {
+            return Err(NoMemory);
+        }
+        self.firsts.note(&self.log, &by, number)?;
+        push_run(&mut self.log, number, var, values, &by, spans)?;
+        number_each(&mut self.rows, var, values, number, place);
+        self.next = number + values.len();
         Ok(())
     }
 

@@ -18,22 +18,16 @@ tells_spans-requires-clause-goes g c = let r = c.requires.revising in record {
   filled = owner_filled c.args.filtering.now r.0 (active_of g.F.Filter.meaning c.args.constraint.now) r.1 c.requires.filled;
 }
 
-pub remove_for_spans-requires-clause-spanned : goal.remove_for_spans-requires-clause-spanned
-remove_for_spans-requires-clause-spanned g c =
-    let r = c.requires.revising in
-    let f = c.args.filtering.now in
-    let owner = active_of g.F.Filter.meaning c.args.constraint.now in (
-      stated f owner c.args.pair,
-      reasons_told f r.0 owner c.args.pair r.1 c.requires.filled c.requires.present c.requires.lacking c.as_slice.result.now c.tells_spans.new.room.spans.items
-          c.as_slice.ensures.value (c.in_ok-tells_spans.ensures.told c.if-branch.true),
-    )
+pub remove_for_spans-requires-clause-fits : goal.remove_for_spans-requires-clause-fits
+remove_for_spans-requires-clause-fits g c = λ s m.
+    (c.in_ok-tells_spans.ensures.told c.if-branch.true).fits s (subst (λ spans. Contains spans s) c.as_slice.ensures.value m)
 
 pub returns-then-branch-clause-walked : goal.returns-then-branch-clause-walked
 returns-then-branch-clause-walked g c = λ active r.
     let f = c.args.filtering.now in
     let owner = active_of g.F.Filter.meaning c.args.constraint.now in
     let told = reasons_told f active owner c.args.pair r c.requires.filled c.requires.present c.requires.lacking c.as_slice.result.now c.tells_spans.new.room.spans.items
-    c.as_slice.ensures.value (c.in_ok-tells_spans.ensures.told c.if-branch.true) in
+    c.as_slice.ensures.value (c.in_ok-tells_spans.ensures.told c.if-branch.true).told in
     on_ok c.remove_for_spans.result (λ takes. taken_walked active owner c.args.pair f c.remove_for_spans.new.self c.cid.result (stated f owner c.args.pair) r
     c.requires.filled c.requires.present c.requires.lacking c.requires.over c.cid.ensures refl takes) (c.remove_for_spans.ensures.ok (stated f owner c.args.pair) told)
 
@@ -42,7 +36,7 @@ returns-then-branch-clause-revising g c = λ active r.
     let f = c.args.filtering.now in
     let owner = active_of g.F.Filter.meaning c.args.constraint.now in
     let told = reasons_told f active owner c.args.pair r c.requires.filled c.requires.present c.requires.lacking c.as_slice.result.now c.tells_spans.new.room.spans.items
-    c.as_slice.ensures.value (c.in_ok-tells_spans.ensures.told c.if-branch.true) in
+    c.as_slice.ensures.value (c.in_ok-tells_spans.ensures.told c.if-branch.true).told in
     on_either c.remove_for_spans.result
     (λ takes. taken_revising active owner c.args.pair f c.remove_for_spans.new.self c.cid.result (stated f owner c.args.pair) r
     c.requires.filled c.requires.present c.requires.lacking c.requires.over c.cid.ensures refl takes)
@@ -55,7 +49,7 @@ returns-then-branch-clause-gone g c =
     let f = c.args.filtering.now in
     let owner = active_of g.F.Filter.meaning c.args.constraint.now in
     let told = reasons_told f r.0 owner c.args.pair r.1 c.requires.filled c.requires.present c.requires.lacking c.as_slice.result.now c.tells_spans.new.room.spans.items
-    c.as_slice.ensures.value (c.in_ok-tells_spans.ensures.told c.if-branch.true) in
+    c.as_slice.ensures.value (c.in_ok-tells_spans.ensures.told c.if-branch.true).told in
     on_ok c.remove_for_spans.result (λ takes. takes.loses) (c.remove_for_spans.ensures.ok (stated f owner c.args.pair) told)
 
 pub returns-then-branch-clause-checks : goal.returns-then-branch-clause-checks
@@ -64,46 +58,8 @@ returns-then-branch-clause-checks g c =
     let f = c.args.filtering.now in
     let owner = active_of g.F.Filter.meaning c.args.constraint.now in
     let told = reasons_told f r.0 owner c.args.pair r.1 c.requires.filled c.requires.present c.requires.lacking c.as_slice.result.now c.tells_spans.new.room.spans.items
-    c.as_slice.ensures.value (c.in_ok-tells_spans.ensures.told c.if-branch.true) in
+    c.as_slice.ensures.value (c.in_ok-tells_spans.ensures.told c.if-branch.true).told in
     on_either c.remove_for_spans.result (λ takes. takes.checks) (λ same. ap (λ (h : Filtering). h.checks) same) (c.remove_for_spans.ensures.ok (stated f owner c.args.pair) told) c.remove_for_spans.ensures.err
-
-pub reason-requires-clause-formed : goal.reason-requires-clause-formed
-reason-requires-clause-formed g c = let r = c.requires.revising in owner_in_form c.args.filtering.now r.0 (active_of g.F.Filter.meaning c.args.constraint.now) r.1
-
-pub reason-requires-clause-filled : goal.reason-requires-clause-filled
-reason-requires-clause-filled g c = let r = c.requires.revising in owner_filled c.args.filtering.now r.0 (active_of g.F.Filter.meaning c.args.constraint.now) r.1 c.requires.filled
-
-pub remove-requires-clause-removed : goal.remove-requires-clause-removed
-remove-requires-clause-removed g c = let r = c.requires.revising in let kept = r.1.kept in kept.removed
-
-pub remove-requires-clause-earlier : goal.remove-requires-clause-earlier
-remove-requires-clause-earlier g c =
-    let r = c.requires.revising in
-    let e = c.as_slice-2.ensures ∙ c.in_ok-reason.ensures.ok in
-    λ p m. reasons_logged c.args.filtering.now r.0 (active_of g.F.Filter.meaning c.args.constraint.now) c.args.pair r.1 c.requires.filled c.requires.present
-    c.requires.lacking p (subst (λ (l : List Pair). Contains l p) e m)
-
-pub returns-clause-walked : goal.returns-clause-walked
-returns-clause-walked g c = λ active r.
-    let e = c.as_slice-2.ensures ∙ c.in_ok-reason.ensures.ok in
-    on_ok c.remove.result (λ takes. taken_walked active (active_of g.F.Filter.meaning c.args.constraint.now) c.args.pair c.args.filtering.now c.remove.new.self c.cid-2.result c.as_slice-2.result.now r
-    c.requires.filled c.requires.present c.requires.lacking c.requires.over c.cid-2.ensures e takes) c.remove.ensures.ok
-
-pub returns-clause-revising : goal.returns-clause-revising
-returns-clause-revising g c = λ active r.
-    let e = c.as_slice-2.ensures ∙ c.in_ok-reason.ensures.ok in
-    let owner = active_of g.F.Filter.meaning c.args.constraint.now in
-    on_either c.remove.result
-    (λ takes. taken_revising active owner c.args.pair c.args.filtering.now c.remove.new.self c.cid-2.result c.as_slice-2.result.now r
-    c.requires.filled c.requires.present c.requires.lacking c.requires.over c.cid-2.ensures e takes)
-    (λ same. subst (λ (f : Filtering). IsRevising f active owner) (sym same) r)
-    c.remove.ensures.ok c.remove.ensures.err
-
-pub returns-clause-gone : goal.returns-clause-gone
-returns-clause-gone g c = on_ok c.remove.result (λ takes. takes.loses) c.remove.ensures.ok
-
-pub returns-clause-checks : goal.returns-clause-checks
-returns-clause-checks g c = on_either c.remove.result (λ takes. takes.checks) (λ same. ap (λ (f : Filtering). f.checks) same) c.remove.ensures.ok c.remove.ensures.err
 
 pub returns-then-branch-clause-knows : goal.returns-then-branch-clause-knows
 returns-then-branch-clause-knows g c =
@@ -111,15 +67,37 @@ returns-then-branch-clause-knows g c =
     let f = c.args.filtering.now in
     let owner = active_of g.F.Filter.meaning c.args.constraint.now in
     let told = reasons_told f r.0 owner c.args.pair r.1 c.requires.filled c.requires.present c.requires.lacking c.as_slice.result.now c.tells_spans.new.room.spans.items
-    c.as_slice.ensures.value (c.in_ok-tells_spans.ensures.told c.if-branch.true) in
+    c.as_slice.ensures.value (c.in_ok-tells_spans.ensures.told c.if-branch.true).told in
     on_ok c.remove_for_spans.result
     (λ takes. knows_still f r.0 owner c.args.pair c.cid.result (stated f owner c.args.pair) c.remove_for_spans.new.self c.tells_spans.new.room r.1 takes c.in_ok-tells_spans.ensures.knows)
     (c.remove_for_spans.ensures.ok (stated f owner c.args.pair) told)
 
+pub returns-clause-walked : goal.returns-clause-walked
+returns-clause-walked g c = λ active r.
+    let owner = active_of g.F.Filter.meaning c.args.constraint.now in
+    on_ok c.take_out_listed.result (λ takes. taken_walked active owner c.args.pair c.args.filtering.now c.take_out_listed.new.filtering owner.cid (stated c.args.filtering.now owner c.args.pair) r
+    c.requires.filled c.requires.present c.requires.lacking c.requires.over refl refl takes) c.take_out_listed.ensures.taken
+
+pub returns-clause-revising : goal.returns-clause-revising
+returns-clause-revising g c = λ active r.
+    let owner = active_of g.F.Filter.meaning c.args.constraint.now in
+    on_either c.take_out_listed.result
+    (λ takes. taken_revising active owner c.args.pair c.args.filtering.now c.take_out_listed.new.filtering owner.cid (stated c.args.filtering.now owner c.args.pair) r
+    c.requires.filled c.requires.present c.requires.lacking c.requires.over refl refl takes)
+    (λ same. subst (λ (f : Filtering). IsRevising f active owner) (sym same) r)
+    c.take_out_listed.ensures.taken c.take_out_listed.ensures.err
+
+pub returns-clause-gone : goal.returns-clause-gone
+returns-clause-gone g c = on_ok c.take_out_listed.result (λ takes. takes.loses) c.take_out_listed.ensures.taken
+
+pub returns-clause-checks : goal.returns-clause-checks
+returns-clause-checks g c = on_either c.take_out_listed.result (λ takes. takes.checks) (λ same. ap (λ (f : Filtering). f.checks) same) c.take_out_listed.ensures.taken c.take_out_listed.ensures.err
+
 pub returns-clause-knows : goal.returns-clause-knows
 returns-clause-knows g c =
     let r = c.requires.revising in
+    let f = c.args.filtering.now in
     let owner = active_of g.F.Filter.meaning c.args.constraint.now in
-    on_ok c.remove.result
-    (λ takes. knows_still c.args.filtering.now r.0 owner c.args.pair c.cid-2.result c.as_slice-2.result.now c.remove.new.self c.tells_spans.new.room r.1 takes c.in_ok-tells_spans.ensures.knows)
-    c.remove.ensures.ok
+    on_ok c.take_out_listed.result
+    (λ takes. knows_still f r.0 owner c.args.pair owner.cid (stated f owner c.args.pair) c.take_out_listed.new.filtering c.tells_spans.new.room r.1 takes c.in_ok-tells_spans.ensures.knows)
+    c.take_out_listed.ensures.taken

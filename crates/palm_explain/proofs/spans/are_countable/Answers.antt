@@ -16,7 +16,7 @@ returns-then-spans-eq1 c known n =
     let d = c.index-spans-0.result in
     let s = get_or c.args.spans.now 0 d in
     let own = only_one c.args.rows.now n c.args.spans.now d c.if-spans-eq1.true in
-    let most = c.lost_by.ensures n s.low s.high in omega (arith, own, most, c.if-prove.false)
+    let most = c.lost_by.ensures.most n s.low s.high in omega (arith, own, most, c.if-prove.false)
 
 pub returns : goal.returns
 returns c known n =

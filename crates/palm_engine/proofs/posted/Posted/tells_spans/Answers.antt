@@ -1,6 +1,7 @@
-use Rattle.std.proofs.Common.{[], inl, inr, sym, subst}
-use Rattle.palm_explain.specs.Explanations.{AreSpanned}
-use Rattle.palm_explain.specs.Explanations.AreSpanned.{spans_end}
+use Rattle.std.proofs.Common.{Contains, inl, inr, subst}
+use Rattle.palm_base.proofs.cited.Members.{member_nil}
+use Rattle.palm_domain.specs.Rows.{initial_of}
+use Rattle.palm_engine.proofs.Telling.{nothing_told}
 use Rattle.palm_engine.proofs.posted.Posted.tells_spans.Goals as goal
 
 pub returns-in-User-clause-told : goal.returns-in-User-clause-told
@@ -10,7 +11,10 @@ pub returns-in-User-clause-knows : goal.returns-in-User-clause-knows
 returns-in-User-clause-knows g c = rw c.in-User.is c.spans_by_rule.ensures.knows
 
 pub returns-in-Decision-clause-told : goal.returns-in-Decision-clause-told
-returns-in-Decision-clause-told g c = elim c.in-Decision.is [
-  | inl own ↦ λ t pairs declared all. rw own.1 (subst (λ spans. AreSpanned pairs spans []) (sym c.clear.ensures.items) spans_end)
-  | inr own ↦ λ t pairs declared all. rw own.2 (subst (λ spans. AreSpanned pairs spans []) (sym c.clear.ensures.items) spans_end)
-]
+returns-in-Decision-clause-told g c = λ yes. record {
+  told = elim c.in-Decision.is [
+    | inl own ↦ rw own.1 (nothing_told (initial_of c.args.store.now) c.clear.new.self.items c.args.pair.now.value c.clear.ensures.items)
+    | inr own ↦ rw own.2 (nothing_told (initial_of c.args.store.now) c.clear.new.self.items c.args.pair.now.value c.clear.ensures.items)
+  ];
+  fits = λ s m. absurd (member_nil s (subst (λ spans. Contains spans s) c.clear.ensures.items m));
+}

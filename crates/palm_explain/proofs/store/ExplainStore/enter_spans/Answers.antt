@@ -6,7 +6,7 @@ use Rattle.palm_explain.specs.Entries.{IsWhole, log_of, written}
 use Rattle.palm_explain.specs.Explanations.{AreSpanned, Explanations}
 use Rattle.palm_explain.proofs.Reasons.{entry_pair}
 use Rattle.palm_explain.proofs.RowNumbers.{keeps_all}
-use Rattle.palm_explain.proofs.Spanned.{own_spanned, spanned_spans}
+use Rattle.palm_explain.proofs.Spanned.{entered_known, own_spanned, spanned_spans}
 use Rattle.palm_explain.proofs.Stores.{entered_pushed, log_like, log_pushed, on_err, whole_like, whole_pushed}
 use Rattle.palm_explain.proofs.store.ExplainStore.enter_spans.Goals as goal
 
@@ -66,7 +66,7 @@ returns-clause-spanned c =
     let inside = c.self.inside in (
       written inside.rows.items inside.next c.args.spans.now,
       subst (λ (v : Explanations). AreSpanned (log_pairs v.log) c.args.spans.now (written inside.rows.items inside.next c.args.spans.now)) c.self.view_is
-          (own_spanned inside.log.items inside.rows.items inside.next c.self.invariant.entered c.args.spans.now),
+          (own_spanned inside.rows.items inside.next (log_pairs (log_of inside.rows.items inside.log.items)) (entered_known inside.log.items inside.rows.items inside.next c.self.invariant.entered) c.args.spans.now),
     )
 
 pub returns-clause-ok : goal.returns-clause-ok
@@ -76,7 +76,7 @@ returns-clause-ok c reasons spanned =
     let next = c.self.inside.next in
     let e : Entry = record { number = next; pair = c.args.pair; by = c.args.by; mark = false; spans = c.in_ok-own.own } in
     let fresh : (f : Entry) → Contains entries f → f.pair ≡ e.pair → ⊥ = λ f m same. (rw (← c.self.view_is) at c.requires.fresh) (member_same (log_pairs (log_of rows entries)) f.pair e.pair same (entry_pair rows entries f m)) in
-    let spans = subst (λ ss. written rows next ss ≡ reasons) (sym c.in_ok-own.ensures) (spanned_spans entries rows next c.self.invariant.entered c.args.spans.now reasons (rw (← c.self.view_is) at spanned)) in
+    let spans = subst (λ ss. written rows next ss ≡ reasons) (sym c.in_ok-own.ensures) (spanned_spans rows next (log_pairs (log_of rows entries)) (entered_known entries rows next c.self.invariant.entered) c.args.spans.now reasons (rw (← c.self.view_is) at spanned)) in
     let pushed = c.push_reserved.ensures.items ∙ ap (λ es. es ++ e ∷ []) c.reserve-2.ensures.items in
     let log = ap (log_of c.put_number.new.rows.items) pushed
     ∙ log_pushed entries rows c.put_number.new.rows.items next e c.self.invariant.entered c.put_number.ensures.formed c.if-number.false refl fresh c.in_ok-put_number.ensures.there c.put_number.ensures.others reasons spans in
