@@ -146,7 +146,7 @@ module _ (owner : Active) (x : ℕ) (over : Contains (scope owner.con) x) (spans
       let s = first_taken f v [] g w t known first.0 first.1 lost in
       let more : Explanations = record (f.log) { log = f.log.log ++ s.own ∷ [] } in
       let same : (let z : Filtering = record g { log = more } in z) ≡ s.after =
-          ap (λ (h : Filtering). let z : Filtering = record h { log = more } in z) s.others ∙ ap (λ (l : Explanations). let z : Filtering = record (s.after) { log = l } in z) (sym s.logged) in
+      ap (λ (h : Filtering). let z : Filtering = record h { log = more } in z) s.others ∙ ap (λ (l : Explanations). let z : Filtering = record (s.after) { log = l } in z) (sym s.logged) in
       record {
         run = s.own ∷ [];
         is = (s.is, tt);

@@ -215,11 +215,7 @@ fn push_below(
 
 /// Appends the removal of the shifted value of the shift's variable as a span, if the variable has values, and answers whether the
 /// shift is near.
-fn push_at(
-    store: &DomainStore,
-    shift: &Shift,
-    out: &mut Vec<MovingSpan>,
-) -> Result<bool, NoMemory>
+fn push_at(store: &DomainStore, shift: &Shift, out: &mut Vec<MovingSpan>) -> Result<bool, NoMemory>
     ensures told { IfOk result (λ told. told ≡ true → TellsMore (initial_of store.now) out.old.items out.new.items
         (λ v. declared_passing (initial_of store.now) shift.now.var (λ w. int_eq w (v +ℤ shift.now.by)))) }
     ensures near { AreNear out.old.items → OnOk result (AreNear out.new.items) }

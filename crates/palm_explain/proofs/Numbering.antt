@@ -25,7 +25,7 @@ AreNumberedBelow stored numbers first values count = (i : ℕ) (v : ℤ) → i <
 pub values_differ : (values : List ℤ) → Ascends values → (i j : ℕ) (v w : ℤ) → i < j → slice_get values i ≡ Some v → slice_get values j ≡ Some w → v ≡ w → ⊥
 values_differ values ascends i j v w lt one two same =
     let below : v <ℤ w =
-        subst (λ a. a <ℤ w) (get_or_from_slice_get values i v v one) (subst (λ b. get_or values i v <ℤ b) (get_or_from_slice_get values j w w two) (get_or-ascends values ascends i j v w lt (slice_get_within values j w two))) in
+    subst (λ a. a <ℤ w) (get_or_from_slice_get values i v v one) (subst (λ b. get_or values i v <ℤ b) (get_or_from_slice_get values j w w two) (get_or-ascends values ascends i j v w lt (slice_get_within values j w two))) in
     omega (arith, ints, below, same)
 
 module _ (r : Row) (values : List ℤ) (first place count : ℕ) (v : ℤ) (numbers : List ℕ) (formed : IsFormedRow r) (ascends : Ascends values) (at : slice_get r.values.items place ≡ Some v) (next : slice_get values count ≡ Some v)

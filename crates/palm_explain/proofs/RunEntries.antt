@@ -142,10 +142,10 @@ module _ (rows : List Row) (x : ℕ) (by : Cid) (spans : List MovingSpan) where
   run_read log n (v ∷ values) (e ∷ run) [] small known numbered only are is = absurd is
   run_read log n (v ∷ values) (e ∷ run) (r ∷ removals) small known numbered only are is =
       let reasons : written rows e.number e.spans.items ≡ r.reasons =
-          ap (λ ss. written rows e.number ss) are.0.resting ∙ ap (λ k. written rows k (spans_at spans v)) are.0.numbered ∙ spanned_spans rows n (log_pairs log) known (spans_at spans v) r.reasons is.0.resting in
+      ap (λ ss. written rows e.number ss) are.0.resting ∙ ap (λ k. written rows k (spans_at spans v)) are.0.numbered ∙ spanned_spans rows n (log_pairs log) known (spans_at spans v) r.reasons is.0.resting in
       let one : removal_of rows e ≡ r =
-          ap (λ ps. let z : Removal = record { pair = e.pair; by = e.by; reasons = ps } in z) reasons ∙ ap (λ p. let z : Removal = record { pair = p; by = e.by; reasons = r.reasons } in z) (are.0.paired ∙ sym is.0.paired)
-          ∙ ap (λ c. let z : Removal = record { pair = r.pair; by = c; reasons = r.reasons } in z) (are.0.made ∙ sym is.0.made) in
+      ap (λ ps. let z : Removal = record { pair = e.pair; by = e.by; reasons = ps } in z) reasons ∙ ap (λ p. let z : Removal = record { pair = p; by = e.by; reasons = r.reasons } in z) (are.0.paired ∙ sym is.0.paired)
+      ∙ ap (λ c. let z : Removal = record { pair = r.pair; by = c; reasons = r.reasons } in z) (are.0.made ∙ sym is.0.made) in
       let rest = run_read (log ++ r ∷ []) (n + 1) values run removals (omega (arith, small)) (known_more log n v values r (omega (arith, small)) known numbered only is.0.paired) (numbered_more n v values numbered) (only_more n v values only) are.1 is.1 in
       ap (λ z. z ∷ map (removal_of rows) run) one ∙ ap (λ l. r ∷ l) rest
 
@@ -180,7 +180,6 @@ sum_agrees f g same (s ∷ spans) =
 module _ (entries run : List Entry) (rows more : List Row) (next x : ℕ) (by : Cid) (spans : List MovingSpan) (values : List ℤ) (are : AreEntered entries rows next) (of : AreEntriesOf x by spans next values run)
     (each : NumbersEach rows x next values more) (room : next + length values ≤ NO_NUMBER) (fits : AreCountable rows spans)
     (fresh : (v : ℤ) → Contains values v → (f : Entry) → Contains entries f → f.pair ≡ record { var = x; value = v } → ⊥) where
-
   abbrev paired : ℤ → Pair
   paired v = record { var = x; value = v }
 

@@ -16,11 +16,13 @@ use crate::cid_set::CidSet;
 use crate::entry::{Entry, place_of};
 use crate::firsts::Firsts;
 use crate::losing::lose_each;
+use crate::moving::{MovingSpan, are_all_countable, push_run};
 use crate::naming::names_at;
 use crate::needing::{add_cids, add_needed};
 use crate::restored::Restored;
-use crate::moving::{MovingSpan, are_all_countable, push_run};
-use crate::rows::{NO_NUMBER, Row, declare_values, number_each, number_near, put_number, reach_values};
+use crate::rows::{
+    NO_NUMBER, Row, declare_values, number_each, number_near, put_number, reach_values,
+};
 use crate::spans::{Span, are_countable, copy_of, count_of, push_spans, reason_in, spans_of};
 use crate::withdrawing::{close_up, forget_each};
 use palm_base::{Cid, CidList, NoMemory, Pair, Value, Var};

@@ -18,7 +18,7 @@ returns-clause-told c = λ yes.
     let s = c.args.shift.now in
     let span : MovingSpan = record { var = s.var; low = Shifted s.by; high = Shifted s.by } in
     let pushed = c.in_ok-push.ensures.items ∙ ap (λ (e : End). c.args.out.now.items ++ record { var = s.var; low = e; high = c.shifted-2.result } ∷ []) c.shifted.ensures
-        ∙ ap (λ (e : End). c.args.out.now.items ++ record { var = s.var; low = Shifted s.by; high = e } ∷ []) c.shifted-2.ensures in
+    ∙ ap (λ (e : End). c.args.out.now.items ++ record { var = s.var; low = Shifted s.by; high = e } ∷ []) c.shifted-2.ensures in
     span_told (initial_of c.args.store.now) span (λ v w. int_eq w (v +ℤ s.by)) c.args.out.now.items c.push.new.self.items c.ends_of.ensures.ascend
     (λ v w has pass. let same = same_from_int_eq w (v +ℤ s.by) pass in (omega (arith, ints, same), omega (arith, ints, same)))
     (λ v w has ge le. (Decides-int_eq w (v +ℤ s.by)).1 (omega (arith, ints, ge, le)))

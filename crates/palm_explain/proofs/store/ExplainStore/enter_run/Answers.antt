@@ -94,7 +94,7 @@ invariant_of-self-2 c =
     let run = c.in_ok-push_run.ensures.ok in
     let are = entered_like entries c.self.inside.rows.items rows next c.self.invariant.entered c.reach_values.ensures.formed c.reach_values.ensures.removals in
     let fresh : (v : ℤ) → Contains values v → (f : Entry) → Contains entries f → f.pair ≡ record { var = x; value = v } → ⊥ = λ v m f n same.
-        (rw (← c.self.view_is) at c.requires.fresh) v m (member_same (log_pairs (log_of c.self.inside.rows.items entries)) f.pair (record { var = x; value = v }) same (entry_pair c.self.inside.rows.items entries f n)) in
+    (rw (← c.self.view_is) at c.requires.fresh) v m (member_same (log_pairs (log_of c.self.inside.rows.items entries)) f.pair (record { var = x; value = v }) same (entry_pair c.self.inside.rows.items entries f n)) in
     let most = c.self.invariant.entered.most in
     let room : next + length values ≤ NO_NUMBER = omega (arith, most, c.if-number-values.false) in
     let fits = rw c.deref.ensures.value at c.are_all_countable.ensures c.if-not-are_all_countable.false in
@@ -118,7 +118,7 @@ returns-clause-ok c removals is =
     let run = c.in_ok-push_run.ensures.ok in
     let are = entered_like entries old rows next c.self.invariant.entered c.reach_values.ensures.formed c.reach_values.ensures.removals in
     let fresh : (v : ℤ) → Contains values v → (f : Entry) → Contains entries f → f.pair ≡ record { var = x; value = v } → ⊥ = λ v m f n same.
-        (rw (← c.self.view_is) at c.requires.fresh) v m (member_same (log_pairs (log_of old entries)) f.pair (record { var = x; value = v }) same (entry_pair old entries f n)) in
+    (rw (← c.self.view_is) at c.requires.fresh) v m (member_same (log_pairs (log_of old entries)) f.pair (record { var = x; value = v }) same (entry_pair old entries f n)) in
     let most = c.self.invariant.entered.most in
     let room : next + length values ≤ NO_NUMBER = omega (arith, most, c.if-number-values.false) in
     let fits = rw c.deref.ensures.value at c.are_all_countable.ensures c.if-not-are_all_countable.false in
