@@ -1,5 +1,5 @@
 -- The values of a variable below a bound, and those from it on: how a walk over the present values covers the declared ones.
-use Rattle.std.proofs.Common.{◌≡◌, ℕ, ◌+◌, ℤ, pos, ◌+ℤ◌, ◌<◌, ◌<ℤ◌, ◌≤ℤ◌, not, Option, Some, None, IfSome, MatchOption, List, [], ◌∷◌, ◌++◌, length, Contains, inl, inr, sym, ap, ◌∙◌, subst, arith, int_lt}
+use Rattle.std.proofs.Common.{◌≡◌, ℕ, ◌+◌, ℤ, pos, ◌+ℤ◌, ◌<◌, ◌<ℤ◌, ◌≤ℤ◌, not, Option, Some, None, IfSome, List, [], ◌∷◌, ◌++◌, length, Contains, inl, inr, sym, ap, ◌∙◌, subst, arith, int_lt}
 use Rattle.std.proofs.lemmas.Int.{ints}
 use Rattle.std.proofs.lemmas.Bool.{cases_Bool, not-true}
 use Rattle.std.proofs.lemmas.List.{map-append}
@@ -12,7 +12,7 @@ use Rattle.palm_model.specs.Log.{Active}
 use Rattle.palm_model.specs.State.{EngineState, present}
 use Rattle.palm_model.proofs.cited.Ascending.{ascends_filter}
 use Rattle.palm_model.proofs.cited.Without.{pair_of}
-use Rattle.palm_domain.specs.Rows.{IsLeastOf, IsNextFrom}
+use Rattle.palm_domain.specs.Rows.{IsLeastOf}
 use Rattle.palm_domain.proofs.cited.Ascending.{Ascends-cons, first_below, same_ascending}
 use Rattle.palm_domain.proofs.cited.Comparisons.{lt_from_int_lt, ge_from_int_lt, int_lt_from_lt, int_lt_from_ge}
 use Rattle.palm_model.specs.Support.{IsSupported}

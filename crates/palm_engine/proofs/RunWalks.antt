@@ -3,12 +3,12 @@ use Rattle.std.proofs.Common.{◌≡◌, ℕ, ◌<◌, ℤ, pos, ◌+ℤ◌, ◌
 use Rattle.std.proofs.lemmas.Int.{ints}
 use Rattle.palm_base.specs.declared.terms.Pair.{Pair}
 use Rattle.palm_base.proofs.cited.Members.{all_members, member_cases, member_here, member_nil, member_there}
-use Rattle.palm_domain.specs.Rows.{IsPresent, LosesPair, Row, initial_of, present_of, present_values}
+use Rattle.palm_domain.specs.Rows.{LosesPair, Row, initial_of, present_of, present_values}
 use Rattle.palm_base.specs.declared.terms.Cid.{Cid}
 use Rattle.palm_base.specs.declared.terms.Cid.TheVariants.{Decide, Not, User}
 use Rattle.palm_events.proofs.cited.States.{form_declared}
 use Rattle.palm_model.specs.Constraint.{Distinct, IsFormed, scope}
-use Rattle.palm_model.specs.Domains.{AllAscend, Domains, Has}
+use Rattle.palm_model.specs.Domains.{Has}
 use Rattle.palm_model.specs.Log.{Active, Removal, log_pairs}
 use Rattle.palm_model.specs.Reason.{WantsReason, reason}
 use Rattle.palm_model.specs.State.{AllFilled, IsOfForm}

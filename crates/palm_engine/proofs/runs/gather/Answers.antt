@@ -1,4 +1,4 @@
-use Rattle.std.proofs.Common.{◌≡◌, ◌∙◌, ◌<◌, ◌∷◌, ◌++◌, [], Some, pos, ◌+ℤ◌, refl, sym, ap, subst}
+use Rattle.std.proofs.Common.{◌∙◌, ◌<◌, ◌∷◌, ◌++◌, [], pos, ◌+ℤ◌, refl, sym, ap, subst}
 use Rattle.palm_domain.specs.Rows.{present_values}
 use Rattle.palm_engine.specs.Advancing.{HasGathered, placed_value}
 use Rattle.palm_engine.proofs.Bounds.{fewer_left, left_from}

@@ -1,4 +1,4 @@
-use Rattle.std.proofs.Common.{◌≡◌, ◌∷◌, ◌++◌, ℤ, List, [], IfSome, Contains, pos, ◌+ℤ◌}
+use Rattle.std.proofs.Common.{◌≡◌, IfSome}
 use Rattle.palm_domain.specs.Rows.{IsPlaced, present_values}
 use Rattle.palm_engine.specs.Advancing.{HasGathered, placed_value}
 use Rattle.palm_engine.proofs.Bounds.{left_from}

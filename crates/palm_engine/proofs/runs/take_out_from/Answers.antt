@@ -1,6 +1,6 @@
-use Rattle.std.proofs.Common.{◌<◌, IfSome, None, Some, [], ◌∷◌, ◌≤ℤ◌, ◌∙◌, sym, ap, subst, arith}
+use Rattle.std.proofs.Common.{◌<◌, None, Some, sym, subst, arith}
 use Rattle.std.proofs.lemmas.Int.{ints}
-use Rattle.palm_domain.specs.Rows.{IsPlaced, initial_of}
+use Rattle.palm_domain.specs.Rows.{initial_of}
 use Rattle.palm_model.specs.Domains.{values_of}
 use Rattle.palm_model.specs.Removed.{pairs_of}
 use Rattle.palm_engine.specs.declared.filtering.Filtering.{Filtering}

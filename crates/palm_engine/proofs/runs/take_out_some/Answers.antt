@@ -1,22 +1,19 @@
-use Rattle.std.proofs.Common.{◌≡◌, ◌∙◌, ℤ, pos, ◌+ℤ◌, ◌≤ℤ◌, ◌∷◌, List, Contains, Some, inl, inr, refl, sym, ap, subst, arith}
+use Rattle.std.proofs.Common.{◌∙◌, ℤ, pos, ◌+ℤ◌, ◌≤ℤ◌, ◌∷◌, Contains, Some, inl, inr, refl, sym, subst, arith}
 use Rattle.std.proofs.lemmas.Int.{ints}
 use Rattle.palm_base.specs.Ascending.{Ascends}
 use Rattle.palm_base.specs.declared.terms.Pair.{Pair}
 use Rattle.palm_base.proofs.cited.Members.{member_cases}
 use Rattle.palm_domain.specs.Rows.{present_values}
-use Rattle.palm_model.specs.Log.{Active}
 use Rattle.palm_explain.specs.Explanations.{Explanations, IsRunOf}
-use Rattle.palm_engine.specs.declared.filtering.Filtering.{Filtering}
 use Rattle.palm_engine.specs.Advancing.{IsBefore, TakenFrom, placed_value}
 use Rattle.palm_engine.specs.Changed.{HasLostEach}
 use Rattle.palm_engine.specs.Posted.{active_of}
-use Rattle.palm_engine.specs.Reasons.{Goes}
 use Rattle.palm_engine.proofs.Convex.{taken_more, taken_start}
 use Rattle.palm_engine.proofs.InTurn.{next_later, turn_above, turn_ascends, turn_later}
 use Rattle.palm_engine.proofs.LosingEach.{lost_initial}
 use Rattle.palm_engine.proofs.PlacedWalks.{next_value, placed_next}
 use Rattle.palm_engine.proofs.Progress.{taken_revising, taken_walked, values_filled}
-use Rattle.palm_engine.proofs.Revised.{owner_filled, owner_in_form, stated, var_stored}
+use Rattle.palm_engine.proofs.Revised.{owner_filled, stated}
 use Rattle.palm_engine.proofs.RunWalks.{gathered_known, run_taken}
 use Rattle.palm_engine.proofs.runs.take_out_some.Goals as goal
 

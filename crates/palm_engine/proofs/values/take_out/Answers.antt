@@ -1,9 +1,8 @@
-use Rattle.std.proofs.Common.{List, Contains, ◌∙◌, refl, sym, ap, subst}
-use Rattle.palm_base.specs.declared.terms.Pair.{Pair}
+use Rattle.std.proofs.Common.{Contains, refl, sym, ap, subst}
 use Rattle.palm_engine.specs.declared.filtering.Filtering.{Filtering}
 use Rattle.palm_engine.specs.Posted.{active_of}
 use Rattle.palm_engine.specs.Revising.{IsRevising}
-use Rattle.palm_engine.proofs.Revised.{owner_in_form, owner_filled, reasons_logged, reasons_told, stated}
+use Rattle.palm_engine.proofs.Revised.{owner_in_form, owner_filled, reasons_told, stated}
 use Rattle.palm_engine.proofs.Progress.{taken_walked, taken_revising, on_ok, on_either}
 use Rattle.palm_engine.proofs.Knowing.{knows_still}
 use Rattle.palm_engine.proofs.values.take_out.Goals as goal

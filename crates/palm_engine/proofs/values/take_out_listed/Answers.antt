@@ -1,9 +1,7 @@
-use Rattle.std.proofs.Common.{List, Contains, ◌∙◌, sym, subst}
+use Rattle.std.proofs.Common.{List, Contains, ◌∙◌, subst}
 use Rattle.palm_base.specs.declared.terms.Pair.{Pair}
-use Rattle.palm_engine.specs.Changed.{TakesOut}
 use Rattle.palm_engine.specs.Posted.{active_of}
-use Rattle.palm_engine.specs.Revising.{IsRevising}
-use Rattle.palm_engine.proofs.Revised.{owner_in_form, owner_filled, reasons_logged, stated}
+use Rattle.palm_engine.proofs.Revised.{owner_in_form, owner_filled, reasons_logged}
 use Rattle.palm_engine.proofs.Progress.{on_ok, takes_stated}
 use Rattle.palm_engine.proofs.values.take_out_listed.Goals as goal
 

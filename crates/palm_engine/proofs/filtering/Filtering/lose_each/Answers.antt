@@ -1,4 +1,4 @@
-use Rattle.std.proofs.Common.{◌≡◌, ◌∙◌, ◌+◌, ◌<◌, ◌≤◌, ◌<ℤ◌, [], ◌∷◌, ◌++◌, get_or, length, drop, take, Contains, sym, ap, subst, arith}
+use Rattle.std.proofs.Common.{◌∙◌, ◌+◌, [], ◌∷◌, ◌++◌, get_or, drop, take, Contains, sym, ap, subst, arith}
 use Rattle.std.proofs.lemmas.Int.{ints}
 use Rattle.std.proofs.lemmas.List.{drop_more, take_all, take_more}
 use Rattle.palm_base.proofs.cited.Members.{member_here, member_there}

@@ -1,7 +1,7 @@
-use Rattle.std.proofs.Common.{◌≡◌, ◌<◌, ℤ, [], ◌∷◌, Contains, refl, sym, subst, arith}
+use Rattle.std.proofs.Common.{◌≡◌, ℤ, [], ◌∷◌, Contains, refl, sym, subst, arith}
 use Rattle.palm_base.proofs.cited.Members.{member_single}
 use Rattle.palm_domain.specs.Rows.{Ascends, IsPresent}
-use Rattle.palm_model.specs.Log.{Removal, log_pairs}
+use Rattle.palm_model.specs.Log.{Removal}
 use Rattle.palm_explain.specs.Explanations.{IsRunOf}
 use Rattle.palm_explain.specs.Moving.{FitsSpan}
 use Rattle.palm_engine.specs.Changed.{HasLostEach, TakesOut}
